@@ -3,5 +3,9 @@ pub mod Laws
 pub mod Over
 pub mod Fronts
 pub mod Placing
+pub mod Sounds
+pub mod Plans
 pub mod Refusing
+pub mod Idle
+pub mod Reached
 pub mod Tabled

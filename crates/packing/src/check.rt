@@ -45,7 +45,7 @@ fn first_outside(rates: &[u16], unit: u32) -> Option<usize>
 }
 
 // The refusal that counts for a load, or none where it is allowed.
-pub fn refusal(cores: u32, unit: u32, rates: &[u16]) -> Option<Refusal>
+pub fn first_refusal(cores: u32, unit: u32, rates: &[u16]) -> Option<Refusal>
     ensures { λ r. ⌜ Cases r (Allowed cores unit (now (rates .entry))) (First cores unit (now (rates .entry))) ⌝ }
 {
     if cores < 1 || cores > CORES {

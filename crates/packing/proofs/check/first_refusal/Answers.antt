@@ -1,6 +1,6 @@
 use native.Mathlib.Omega.{arith}
 use Rattle.packing.proofs.Refusing.{bad-rate-first, overload-first, allowed}
-use Rattle.packing.proofs.check.refusal.Needs as need
+use Rattle.packing.proofs.check.first_refusal.Needs as need
 
 pub returns-in-Some : need.returns-in-Some
 returns-in-Some c =

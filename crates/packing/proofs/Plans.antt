@@ -1,6 +1,6 @@
 -- How many servers a packing opens, and how many levels a plan has. Assumes nothing.
 use mathlib.Core.Path.{_≡_, refl, sym, ap, _∙_, subst}
-use mathlib.Core.Logic.{_⊎_, inl, inr, ⊎-elim}
+use mathlib.Core.Logic.{_≢_, _⊎_, inl, inr, ⊎-elim}
 use mathlib.Core.List.{List, [], _∷_}
 use Prim.Native.Nat.{ℕ, zero, suc, _+_, _-_, _*_, _≤_, _<_}
 use native.Mathlib.Nat.{suc-mul, zero-mul, mul-sub, mul-comm, mul-assoc, lt-of-mul-lt-mul-right, le-of-mul-le-mul-right, eq-of-mul-eq-mul-right}
@@ -9,11 +9,11 @@ use lib.ListN.{length, getD}
 use Rattle.std.specs.shelf.Lists.{All, sum}
 use Rattle.std.proofs.shelf.Lists.{length-set, length-push, length-map, getD-push, getD-map}
 use Rattle.std.proofs.shelf.Sums.{sumBy-cons, sumBy-le}
-use Rattle.std.proofs.shelf.Elements.{all-map, all-weaker}
+use Rattle.std.proofs.shelf.Elements.{all-getD, all-map, all-weaker}
 use Rattle.std.proofs.shelf.Tests.{cases-eq, cases-lt}
 use Rattle.packing.specs.Fitting.{Rule, Lawful}
 use Rattle.packing.specs.Packing.{Packing, packing-of, used-after, filled, servers-of, Within, Crowded, Sound}
-use Rattle.packing.specs.Plan.{duals, Only-roots, IsPlan, Sound-levels, Sized, Cored, Full-cores, One-small-plan}
+use Rattle.packing.specs.Plan.{duals, Only-roots, IsPlan, Sound-levels, Sized, Cored, onward, climb, Ends-in-root, Full-cores, One-small-plan}
 use Rattle.packing.proofs.Laws.{none-room}
 use Rattle.packing.proofs.Sounds.{one-item, sound-packing}
 
@@ -263,6 +263,42 @@ module _ (rule : Rule) (lawful : Lawful rule) (unit : ℕ) where
             (sound-levels (duals unit (servers-of rule unit items)) (duals-fill items f) (next ∷ ls) (subst (λ x. IsPlan rule unit (duals unit x) (next ∷ ls)) same (p .2))),
       )
 
+  -- from every item the way up ends in a root
+  climbs : (items : List ℕ) → Fills items → (levels : List Packing) → IsPlan rule unit items levels
+      → (i : ℕ) → i < length items → getD items i 0 ≢ 0 → Ends-in-root unit levels (climb levels i)
+  climbs items f [] p i below some = absurd p
+  climbs items f (l ∷ []) p i below some =
+      let sound : Sound unit items l = subst (Sound unit items) (sym (p .0)) (sound-packing rule lawful unit items (f .0)) in
+      let home = sound .housed i below some in
+      subst (λ h. Ends-in-root unit (l ∷ []) (onward h (climb []))) (sym (home .1)) (all-getD (λ x. x ≡ unit) (l .rates) (home .0) 0 (home .2) (p .1))
+  climbs items f (l ∷ next ∷ above) p i below some =
+      let sound : Sound unit items l = subst (Sound unit items) (sym (p .0)) (sound-packing rule lawful unit items (f .0)) in
+      let home = sound .housed i below some in
+      let j : ℕ = home .0 in
+      let same : l .rates ≡ servers-of rule unit items = ap (λ x. x .rates) (p .0) in
+      let rest-fills : Fills (duals unit (l .rates)) = subst (λ x. Fills (duals unit x)) (sym same) (duals-fill items f) in
+      let dual : getD (duals unit (l .rates)) j 0 ≡ unit - getD (l .rates) j 0 = getD-map (λ x. unit - x) (l .rates) j 0 0 (home .2) in
+      let in-duals : j < length (duals unit (l .rates)) = omega (arith, home .2, length-map (l .rates) (λ x. unit - x)) in
+      let within : Within unit (getD (l .rates) j 0) = all-getD (Within unit) (l .rates) j 0 (home .2) (sound .within) in
+      subst (λ h. Ends-in-root unit (l ∷ next ∷ above) (onward h (climb (next ∷ above)))) (sym (home .1))
+      (⊎-elim
+      (λ root.
+      let none = no-dual (duals unit (l .rates)) rest-fills (next ∷ above) (p .2) j in-duals (omega (arith, dual, root)) in
+      subst (λ way. Ends-in-root unit (l ∷ next ∷ above) (j ∷ way)) (sym none) root)
+      (λ other. one-up l j (next ∷ above) (climb (next ∷ above) j) (climbs (duals unit (l .rates)) rest-fills (next ∷ above) (p .2) j in-duals (omega (arith, dual, within .1))))
+      (cases-eq (getD (l .rates) j 0) unit))
+    where
+      one-up : (l : Packing) (j : ℕ) (levels : List Packing) (way : List ℕ) → Ends-in-root unit levels way → Ends-in-root unit (l ∷ levels) (j ∷ way)
+      one-up l j levels [] e = absurd e
+      one-up l j levels (k ∷ way) e = e
+
+      no-dual : (items : List ℕ) → Fills items → (levels : List Packing) → IsPlan rule unit items levels → (j : ℕ) → j < length items → getD items j 0 ≡ 0 → climb levels j ≡ []
+      no-dual items f [] p j below none = refl
+      no-dual items f (l ∷ []) p j below none =
+          ap (λ h. onward h (climb [])) (subst (Sound unit items) (sym (p .0)) (sound-packing rule lawful unit items (f .0)) .unhoused j below none)
+      no-dual items f (l ∷ next ∷ above) p j below none =
+          ap (λ h. onward h (climb (next ∷ above))) (subst (Sound unit items) (sym (p .0)) (sound-packing rule lawful unit items (f .0)) .unhoused j below none)
+
 -- one plan at most
 same-plan : (rule : Rule) (unit : ℕ) (items : List ℕ) (a b : List Packing) → IsPlan rule unit items a → IsPlan rule unit items b → a ≡ b
 same-plan rule unit items [] b p q = absurd p
@@ -301,4 +337,5 @@ one-small-plan rule lawful unit cores items full =
       sized = first-sized rule unit items 31 (16 ∷ 8 ∷ 4 ∷ 2 ∷ []) (omega (arith, full .few-cores)) levels is-plan 32 (sized rule lawful unit 4 items fills fits levels is-plan);
       sound = sound-levels rule lawful unit items fills levels is-plan;
       cored = cored rule lawful unit (full .a-unit) items fills levels is-plan;
+      climbs = λ i below. climbs rule lawful unit items fills levels is-plan i below (omega (arith, all-getD (Within unit) items i 0 below (full .within) .0));
     }

@@ -2,7 +2,7 @@
 use mathlib.Core.Path.{_≡_}
 use mathlib.Core.Bool.{cond}
 use mathlib.Core.List.{List, [], _∷_, _++_, map}
-use Prim.Native.Nat.{ℕ, _-_, _*_, _/_, _%_, _≤_}
+use Prim.Native.Nat.{ℕ, _-_, _*_, _/_, _%_, _≤_, _<_}
 use lib.Dec.{eqb}
 use lib.ListN.{length, getD, replicate}
 use Rattle.std.specs.shelf.Lists.{All, sum}
@@ -47,6 +47,25 @@ IsPlan rule unit items (l ∷ []) = (l ≡ packing-of rule unit items) × Only-r
 IsPlan rule unit items (l ∷ next ∷ above) =
     (l ≡ packing-of rule unit items) × (Only-roots unit (l .rates) → ⊥) × IsPlan rule unit (duals unit (l .rates)) (next ∷ above)
 
+-- ---- the way of one item
+
+-- The home j of an item, and what follows for the dual of server j; nothing where there is no home.
+abbrev pub onward : Option ℕ → (ℕ → List ℕ) → List ℕ
+onward None rest = []
+onward (Some j) rest = j ∷ rest j
+
+-- The servers above item i, level by level: its home, the home of that server's dual, and so on to a root.
+abbrev pub climb : List Packing → ℕ → List ℕ
+climb [] i = []
+climb (l ∷ above) i = onward (getD (l .homes) i None) (climb above)
+
+-- The last server of such a way is a root.
+abbrev pub Ends-in-root : ℕ → List Packing → List ℕ → Type 0
+Ends-in-root unit levels [] = ⊥
+Ends-in-root unit [] (j ∷ way) = ⊥
+Ends-in-root unit (l ∷ above) (j ∷ []) = getD (l .rates) j 0 ≡ unit
+Ends-in-root unit (l ∷ above) (j ∷ k ∷ way) = Ends-in-root unit above (k ∷ way)
+
 -- ---- what a plan owes, whatever the rule
 
 -- Each level is a sound packing of its items.
@@ -76,7 +95,8 @@ pub record Full-cores (unit cores : ℕ) (items : List ℕ) : Type 0 where
   pub within : All (Within unit) items
   pub full : sum items ≡ cores * unit
 
--- There is exactly one plan, it is sound, and it has at most five levels of at most 31, 16, 8, 4 and 2 servers.
+-- There is exactly one plan. It has at most five levels, of at most 31, 16, 8, 4 and 2 servers, each a sound packing, and
+-- from every item the way up ends in a root.
 pub record One-small-plan (rule : Rule) (unit cores : ℕ) (items : List ℕ) : Type 0 where
   pub levels : List Packing
   pub is-plan : IsPlan rule unit items levels
@@ -84,15 +104,4 @@ pub record One-small-plan (rule : Rule) (unit cores : ℕ) (items : List ℕ) : 
   pub sized : Sized (31 ∷ 16 ∷ 8 ∷ 4 ∷ 2 ∷ []) levels
   pub sound : Sound-levels unit items levels
   pub cored : Cored unit cores levels
-
--- ---- the way of one item
-
--- The home j of an item, and what follows for the dual of server j; nothing where there is no home.
-abbrev pub onward : Option ℕ → (ℕ → List ℕ) → List ℕ
-onward None rest = []
-onward (Some j) rest = j ∷ rest j
-
--- The servers above item i, level by level: its home, the home of that server's dual, and so on to a root.
-abbrev pub climb : List Packing → ℕ → List ℕ
-climb [] i = []
-climb (l ∷ above) i = onward (getD (l .homes) i None) (climb above)
+  pub climbs : (i : ℕ) → i < length items → Ends-in-root unit levels (climb levels i)

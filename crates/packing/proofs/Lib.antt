@@ -9,3 +9,4 @@ pub mod Refusing
 pub mod Idle
 pub mod Reached
 pub mod Tabled
+pub mod Climbing

@@ -1,7 +1,7 @@
 -- How packings and plans lie in the fixed tables. A reader of the contracts has to believe this file.
 use mathlib.Core.List.{List, _++_, map}
 use Prim.Native.Nat.{ℕ}
-use lib.ListN.{length, drop, replicate}
+use lib.ListN.{length, take, drop, replicate}
 use Rattle.std.specs.declared.option.Option.{Option}
 use Rattle.std.specs.declared.option.Option.the-variants.{None}
 use Rattle.packing.specs.declared.level.Level.{Level}
@@ -33,3 +33,10 @@ plan-table unit tasks levels = record {
   levels = over (map level-table levels) (replicate 5 blank-level);
   depth = length levels;
 }
+
+-- The packing and the levels that any tables stand for.
+abbrev pub packing-in : Level → Packing
+packing-in l = record { homes = take (l .items) (l .homes); rates = take (l .servers) (l .rates) }
+
+abbrev pub levels-in : Plan → List Packing
+levels-in p = map packing-in (take (p .depth) (p .levels))

@@ -1,5 +1,9 @@
 // One level of a plan.
+ghost use mathlib.Core.Path.{_≡_};
+ghost use lib.ListN.{getD};
+ghost use Rattle.std.specs.declared.option.Option.the-variants.{None};
 ghost use Rattle.packing.specs.Made.{Packed-level};
+ghost use Rattle.packing.specs.Tables.{packing-in};
 use crate::fitting::Fitting;
 use crate::limits::SERVERS;
 use crate::limits::TASKS;
@@ -45,5 +49,18 @@ impl Level {
             rates,
             servers,
         })
+    }
+
+    // The home of an item; none where it is no item of this level.
+    pub fn home(&self, item: usize) -> Option<u8>
+        ensures { λ r. ⌜ r ≡ getD (packing-in (now (self .entry)) .homes) item None ⌝ }
+    {
+        if item >= self.items {
+            return None;
+        }
+        match self.homes.get(item) {
+            Some(home) => *home,
+            None => None,
+        }
     }
 }

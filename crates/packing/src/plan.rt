@@ -1,13 +1,14 @@
 // The plan of a load.
-ghost use mathlib.Core.List.{_++_};
+ghost use mathlib.Core.List.{_++_, map};
 ghost use mathlib.Core.Path.{_≡_};
-ghost use Prim.Native.Nat.{_+_, _≤_};
+ghost use Prim.Native.Nat.{_+_, _-_, _≤_};
 ghost use lib.ListN.{length, replicate, take};
+ghost use Rattle.std.specs.declared.option.Option.the-variants.{Some, None};
 ghost use Rattle.std.specs.Orderings.{Decides};
 ghost use Rattle.packing.specs.Made.{Made};
-ghost use Rattle.packing.specs.Plan.{tasks, duals, Only-roots};
+ghost use Rattle.packing.specs.Plan.{tasks, duals, Only-roots, climb};
 ghost use Rattle.packing.specs.Steps.{Limits, Fills-cores, Built};
-ghost use Rattle.packing.specs.Tables.{over};
+ghost use Rattle.packing.specs.Tables.{over, packing-in, levels-in};
 use crate::check::first_refusal;
 use crate::check::total;
 use crate::fitting::Fitting;
@@ -62,6 +63,37 @@ impl Plan {
         *self = build(rule, unit, tasks, count);
         Ok(())
     }
+
+    // The reductions: the levels less one.
+    pub fn reductions(&self) -> usize
+        ensures { λ r. ⌜ r ≡ now (self .entry) .depth - 1 ⌝ }
+    {
+        self.depth.saturating_sub(1)
+    }
+
+    // The way of a task, level by level: the server that it was placed in, the server that this one's dual was placed in,
+    // and so on. Behind its end stands none; a number that no task has goes nowhere.
+    pub fn path(&self, task: usize) -> [Option<u8>; LEVELS]
+        ensures { λ r. ⌜ r ≡ over (map Some (climb (levels-in (now (self .entry))) task)) (replicate 5 None) ⌝ }
+    {
+        way_up(&self.levels, self.depth, task)
+    }
+}
+
+// The servers above a task, through the first `depth` levels.
+fn way_up(levels: &[Level; LEVELS], depth: usize, task: usize) -> [Option<u8>; LEVELS]
+    ensures { λ r. ⌜ r ≡ over (map Some (climb (map packing-in (take depth (now (levels .entry)))) task)) (replicate 5 None) ⌝ }
+{
+    let mut path = [None; LEVELS];
+    let mut item = task;
+    for k in 0..depth.min(LEVELS) {
+        let Some(home) = levels[k].home(item) else {
+            return path;
+        };
+        path[k] = Some(home);
+        item = usize::from(home);
+    }
+    path
 }
 
 // Writes rates over the front of a table.

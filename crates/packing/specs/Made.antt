@@ -15,7 +15,7 @@ use Rattle.packing.specs.Fitting.{Rule}
 use Rattle.packing.specs.Packing.{servers-of, packing-of}
 use Rattle.packing.specs.Plan.{tasks, One-small-plan}
 use Rattle.packing.specs.Refusals.{First, Allowed}
-use Rattle.packing.specs.Tables.{level-table, plan-table}
+use Rattle.packing.specs.Tables.{level-table, plan-table, levels-in}
 
 -- One level is packed: none, and the items or their servers are too many for the tables; or the table of their packing.
 abbrev pub Packed-level : Rule → ℕ → List ℕ → Option Level → Type 0
@@ -29,6 +29,8 @@ pub record Planned (rule : Rule) (cores unit : ℕ) (sheet : List ℕ) (new : Pl
   pub plan : One-small-plan rule unit cores (tasks cores unit sheet)
   pub few-tasks : length (tasks cores unit sheet) ≤ 80
   pub tables : new ≡ plan-table unit (tasks cores unit sheet) (plan .levels)
+  -- these tables stand for just that plan
+  pub levels : levels-in new ≡ plan .levels
 
 abbrev pub Made : {Done : Type 0} → Rule → ℕ → ℕ → List ℕ → Plan → Plan → Result Done Refusal → Type 0
 Made rule cores unit sheet old new (Err e) = First cores unit sheet e × (new ≡ old)

@@ -1,4 +1,4 @@
-// Whether a load is allowed.
+//! Whether a load is allowed.
 ghost use mathlib.Core.Path.{_≡_};
 ghost use Prim.Native.Nat.{_≤_};
 ghost use lib.ListN.{length};
@@ -13,8 +13,8 @@ use crate::limits::SHEET_TASKS;
 use crate::limits::UNIT;
 use crate::refusal::Refusal;
 
-// The sum of the rates of a sheet.
-pub fn total(rates: &[u16]) -> u32
+/// The sum of the rates of a sheet.
+pub(crate) fn total(rates: &[u16]) -> u32
     requires { ⌜ length (now rates) ≤ 64 ⌝ }
     ensures { λ r. ⌜ r ≡ sum (now (rates .entry)) ⌝ }
 {
@@ -25,14 +25,14 @@ pub fn total(rates: &[u16]) -> u32
     parts
 }
 
-// Whether a rate is from 1 to the unit.
+/// Whether a rate is from 1 to the unit.
 fn is_within(rate: u16, unit: u32) -> bool
     ensures { λ r. ⌜ Decides r (Within unit rate) ⌝ }
 {
     rate >= 1 && u32::from(rate) <= unit
 }
 
-// The first task whose rate is 0 or above the unit.
+/// The first task whose rate is 0 or above the unit.
 fn first_outside(rates: &[u16], unit: u32) -> Option<usize>
     ensures { λ r. ⌜ First-outside unit (now (rates .entry)) r ⌝ }
 {
@@ -44,8 +44,8 @@ fn first_outside(rates: &[u16], unit: u32) -> Option<usize>
     None
 }
 
-// The refusal that counts for a load, or none where it is allowed.
-pub fn first_refusal(cores: u32, unit: u32, rates: &[u16]) -> Option<Refusal>
+/// The refusal that counts for a load, or none where it is allowed.
+pub(crate) fn first_refusal(cores: u32, unit: u32, rates: &[u16]) -> Option<Refusal>
     ensures { λ r. ⌜ Cases r (Allowed cores unit (now (rates .entry))) (First cores unit (now (rates .entry))) ⌝ }
 {
     if cores < 1 || cores > CORES {

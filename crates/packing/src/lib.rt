@@ -1,4 +1,4 @@
-// Packing the tasks of a load into servers, level by level, by a fitting rule: the plan of a run.
+//! Packing the tasks of a load into servers, level by level, by a fitting rule: the plan of a run.
 mod check;
 mod fitting;
 mod level;
@@ -18,3 +18,6 @@ pub use limits::TASKS;
 pub use limits::UNIT;
 pub use plan::Plan;
 pub use refusal::Refusal;
+
+#[cfg(test)]
+mod tests;

@@ -1,4 +1,4 @@
-// Placing items in servers, one by one.
+//! Placing items in servers, one by one.
 ghost use mathlib.Core.Path.{_≡_};
 ghost use Prim.Native.Nat.{_<_, _≤_};
 ghost use Rattle.std.specs.declared.option.Option.the-variants.{None};
@@ -8,8 +8,8 @@ ghost use Rattle.packing.specs.Packing.{packing-of, servers-of};
 ghost use Rattle.packing.specs.Steps.{Placed, Packed};
 use crate::fitting::Fitting;
 
-// Puts an item into the server that the rule names, or into a new one after the first `count`. Answers its home, or none
-// where the table has no room for a new server.
+/// Puts an item into the server that the rule names, or into a new one after the first `count`. Answers its home, or none
+/// where the table has no room for a new server.
 fn place<F: Fitting>(
     rule: &F,
     unit: u16,
@@ -37,9 +37,9 @@ fn place<F: Fitting>(
     }
 }
 
-// Places items of these rates in order; a rate of 0 is no item. Writes their homes and the rates of the servers, and
-// answers how many servers there are, or none where the table has no room for them.
-pub fn pack<F: Fitting>(
+/// Places items of these rates in order; a rate of 0 is no item. Writes their homes and the rates of the servers, and
+/// answers how many servers there are, or none where the table has no room for them.
+pub(crate) fn pack<F: Fitting>(
     rule: &F,
     unit: u16,
     items: &[u16],

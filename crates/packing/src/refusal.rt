@@ -1,24 +1,24 @@
-// The reasons to refuse a load.
+//! The reasons to refuse a load.
 ghost use mathlib.Core.Path.{_≡_};
 ghost use Rattle.packing.specs.Refusals.{row};
 
-// Why a load is refused.
+/// Why a load is refused.
 #[derive(Clone, Copy, PartialEq, Eq, Debug)]
 pub enum Refusal {
-    // cores not 1 to 16
+    /// cores not 1 to 16
     BadCores,
-    // unit not 1 to 1,000
+    /// unit not 1 to 1,000
     BadUnit,
-    // no task, or more than 64
+    /// no task, or more than 64
     BadTaskCount,
-    // this task, the first such, has rate 0 or a rate above the unit
+    /// this task, the first such, has rate 0 or a rate above the unit
     BadRate(usize),
-    // the rates sum above cores × unit
+    /// the rates sum above cores × unit
     Overload,
 }
 
 impl Refusal {
-    // The number of its row in the table of refusals.
+    /// The number of its row in the table of refusals.
     pub fn number(self) -> u8
         ensures { λ r. ⌜ r ≡ row self .number ⌝ }
     {
@@ -31,7 +31,7 @@ impl Refusal {
         }
     }
 
-    // The task that it names, if it names one.
+    /// The task that it names, if it names one.
     pub fn task(self) -> Option<usize>
         ensures { λ r. ⌜ r ≡ row self .task ⌝ }
     {

@@ -1,4 +1,4 @@
-// The three fitting rules: first fit, best fit and worst fit.
+//! The three fitting rules: first fit, best fit and worst fit.
 ghost use mathlib.Core.Path.{_≡_};
 ghost use Prim.Native.Nat.{_+_, _<_};
 ghost use lib.Dec.{leb};
@@ -8,7 +8,7 @@ ghost use Rattle.packing.specs.declared.rules.Preference.the-variants.{Earlies
 ghost use Rattle.packing.specs.Rules.{First-fit, Best-fit, Worst-fit, preferred, wins, takes-over, better};
 use crate::Fitting;
 
-// Which of two servers with room a rule prefers: the earlier, the fuller or the emptier. Of equals it keeps the earlier.
+/// Which of two servers with room a rule prefers: the earlier, the fuller or the emptier. Of equals it keeps the earlier.
 #[derive(Clone, Copy)]
 enum Preference {
     Earliest,
@@ -16,7 +16,7 @@ enum Preference {
     Emptiest,
 }
 
-// Whether an item goes into a server: used + rate <= unit.
+/// Whether an item goes into a server: used + rate <= unit.
 fn has_room(used: u16, unit: u16, rate: u16) -> bool
     ensures { λ r. ⌜ r ≡ leb (used + rate) unit ⌝ }
 {
@@ -24,7 +24,7 @@ fn has_room(used: u16, unit: u16, rate: u16) -> bool
 }
 
 impl Preference {
-    // Whether a server with `x` parts used is preferred to an earlier one with `y`.
+    /// Whether a server with `x` parts used is preferred to an earlier one with `y`.
     fn prefers(self, x: u16, y: u16) -> bool
         ensures { λ r. ⌜ r ≡ wins self x y ⌝ }
     {
@@ -35,7 +35,7 @@ impl Preference {
         }
     }
 
-    // Whether a server with `parts` used takes the place of the best so far.
+    /// Whether a server with `parts` used takes the place of the best so far.
     fn replaces(self, used: &[u16], best: Option<usize>, parts: u16) -> bool
         requires { ⌜ Cases best (Unit {0}) (λ b. b < length (now used)) ⌝ }
         ensures { λ r. ⌜ r ≡ takes-over self (now (used .entry)) best parts ⌝ }
@@ -46,7 +46,7 @@ impl Preference {
         }
     }
 
-    // The preferred server with room.
+    /// The preferred server with room.
     fn choose(self, used: &[u16], unit: u16, rate: u16) -> Option<usize>
         ensures { λ r. ⌜ r ≡ preferred self (now (used .entry)) unit rate ⌝ }
     {
@@ -60,7 +60,7 @@ impl Preference {
     }
 }
 
-// The first open server with room.
+/// The first open server with room.
 #[derive(Clone, Copy)]
 pub struct FirstFit;
 
@@ -75,7 +75,7 @@ pub impl Fitting for FirstFit as FirstFitFitting {
     }
 }
 
-// Of the open servers with room the one with the fewest parts free, the first of equals.
+/// Of the open servers with room the one with the fewest parts free, the first of equals.
 #[derive(Clone, Copy)]
 pub struct BestFit;
 
@@ -90,7 +90,7 @@ pub impl Fitting for BestFit as BestFitFitting {
     }
 }
 
-// Of the open servers with room the one with the most parts free, the first of equals.
+/// Of the open servers with room the one with the most parts free, the first of equals.
 #[derive(Clone, Copy)]
 pub struct WorstFit;
 

@@ -1,4 +1,4 @@
-// Shows the plans of some loads, level by level, and follows one task of each up to its root.
+//! Shows the plans of some loads, level by level, and follows one task of each up to its root.
 use packing::Level;
 use packing::Plan;
 use packing::Refusal;
@@ -6,7 +6,7 @@ use packing::rules::FirstFit;
 use packing::rules::FirstFitFitting;
 use std::io;
 
-// What a load is: cores, parts in one whole core, and the rate of each task.
+/// A load: the cores, the parts in one whole core, and the rate of each task.
 #[derive(Clone, Copy)]
 struct Load<'a> {
     cores: u32,
@@ -14,7 +14,7 @@ struct Load<'a> {
     rates: &'a [u16],
 }
 
-// Prints the refusal of a load.
+/// Prints the number of a refusal, and the task that it names.
 fn print_refusal(rt: &LibcRuntime, refusal: Refusal) -> io::Result<()> {
     let number = refusal.number();
     match refusal.task() {
@@ -23,48 +23,7 @@ fn print_refusal(rt: &LibcRuntime, refusal: Refusal) -> io::Result<()> {
     }
 }
 
-// Prints an item of a level: a task, or the dual of a server of the level below.
-fn print_item(rt: &LibcRuntime, load: Load, depth: usize, item: usize) -> io::Result<()> {
-    if depth > 0 {
-        print!(rt, " [dual of server {item}]")
-    } else if item < load.rates.len() {
-        print!(rt, " [task {item}]")
-    } else {
-        print!(rt, " [idle task {item}]")
-    }
-}
-
-// Prints the clients of a server.
-fn print_clients(
-    rt: &LibcRuntime,
-    load: Load,
-    depth: usize,
-    level: &Level,
-    server: usize,
-) -> io::Result<()> {
-    for item in 0..level.items {
-        if let Some(home) = level.home(item) {
-            if usize::from(home) == server {
-                print_item(rt, load, depth, item)?;
-            }
-        }
-    }
-    println!(rt, "")
-}
-
-// Prints the servers of a level.
-fn print_level(rt: &LibcRuntime, load: Load, depth: usize, level: &Level) -> io::Result<()> {
-    let unit = load.unit;
-    println!(rt, "level {depth}")?;
-    for (server, rate) in level.rates.iter().take(level.servers).enumerate() {
-        let mark = if u32::from(*rate) == unit { ", root" } else { "" };
-        print!(rt, "  server {server}: rate {rate} of {unit}{mark}:")?;
-        print_clients(rt, load, depth, level, server)?;
-    }
-    Ok(())
-}
-
-// Prints the rates of all tasks.
+/// Prints the cores, the unit and the rates of all tasks.
 fn print_tasks(rt: &LibcRuntime, load: Load, plan: &Plan) -> io::Result<()> {
     let cores = load.cores;
     let unit = load.unit;
@@ -76,9 +35,77 @@ fn print_tasks(rt: &LibcRuntime, load: Load, plan: &Plan) -> io::Result<()> {
     Ok(())
 }
 
-// Prints the way of a task from its server through the duals to its root.
+/// Prints an item: a task, or the dual of a server of the level below.
+fn print_item(rt: &LibcRuntime, load: Load, depth: usize, item: usize) -> io::Result<()> {
+    if depth > 0 {
+        print!(rt, "dual of server {item}")
+    } else if item < load.rates.len() {
+        print!(rt, "task {item}")
+    } else {
+        print!(rt, "idle task {item}")
+    }
+}
+
+/// Prints the clients of a server, in placing order.
+fn print_clients(
+    rt: &LibcRuntime,
+    load: Load,
+    depth: usize,
+    level: &Level,
+    server: usize,
+) -> io::Result<()> {
+    let mut before = ": ";
+    for item in 0..level.items {
+        if let Some(home) = level.home(item) {
+            if usize::from(home) == server {
+                print!(rt, "{before}")?;
+                print_item(rt, load, depth, item)?;
+                before = ", ";
+            }
+        }
+    }
+    println!(rt, "")
+}
+
+/// Prints the servers of a level.
+fn print_level(rt: &LibcRuntime, load: Load, depth: usize, level: &Level) -> io::Result<()> {
+    println!(rt, "level {depth}")?;
+    for (server, rate) in level.rates.iter().take(level.servers).enumerate() {
+        let root = if u32::from(*rate) == load.unit { ", a root" } else { "" };
+        print!(rt, "  server {server}, rate {rate}{root}")?;
+        print_clients(rt, load, depth, level, server)?;
+    }
+    Ok(())
+}
+
+/// Prints one server on the way of a task, and the rate of its dual.
+fn print_step(
+    rt: &LibcRuntime,
+    load: Load,
+    plan: &Plan,
+    depth: usize,
+    server: usize,
+) -> io::Result<()> {
+    let Some(level) = plan.levels.get(depth) else {
+        return Ok(());
+    };
+    let Some(rate) = level.rates.get(server) else {
+        return Ok(());
+    };
+    let rest = load.unit.saturating_sub(u32::from(*rate));
+    print!(rt, "  level {depth}: in server {server}, rate {rate}")?;
+    if rest == 0 {
+        println!(rt, ", a root")
+    } else {
+        println!(rt, ", whose dual has rate {rest}")
+    }
+}
+
+/// Prints the way of a task: its server, the server of that one's dual, and so on to a root.
 fn print_path(rt: &LibcRuntime, load: Load, plan: &Plan, task: usize) -> io::Result<()> {
-    println!(rt, "the way of task {task}")?;
+    if let Some(rate) = plan.rates.get(task) {
+        println!(rt, "the way of task {task}, rate {rate}")?;
+    }
     let path = plan.path(task);
     for (depth, home) in path.iter().enumerate() {
         if let Some(server) = home {
@@ -88,30 +115,7 @@ fn print_path(rt: &LibcRuntime, load: Load, plan: &Plan, task: usize) -> io::Res
     Ok(())
 }
 
-// Prints one server on the way of a task, and what its dual takes up the next level.
-fn print_step(
-    rt: &LibcRuntime,
-    load: Load,
-    plan: &Plan,
-    depth: usize,
-    server: usize,
-) -> io::Result<()> {
-    let unit = load.unit;
-    let Some(level) = plan.levels.get(depth) else {
-        return Ok(());
-    };
-    let Some(rate) = level.rates.get(server) else {
-        return Ok(());
-    };
-    let rest = unit.saturating_sub(u32::from(*rate));
-    if rest == 0 {
-        println!(rt, "  level {depth}: in server {server}, rate {rate}, a root")
-    } else {
-        println!(rt, "  level {depth}: in server {server}, rate {rate}, its dual has rate {rest}")
-    }
-}
-
-// Prints a plan, and then the way of one task.
+/// Prints a plan, and then the way of one task.
 fn print_plan(rt: &LibcRuntime, load: Load, plan: &Plan, task: usize) -> io::Result<()> {
     print_tasks(rt, load, plan)?;
     for (depth, level) in plan.levels.iter().take(plan.depth).enumerate() {
@@ -123,7 +127,7 @@ fn print_plan(rt: &LibcRuntime, load: Load, plan: &Plan, task: usize) -> io::Res
     println!(rt, "")
 }
 
-// Plans a load by first fit and prints the plan, or the refusal.
+/// Plans a load by first fit and prints the plan with the way of one task, or the refusal.
 fn show(rt: &LibcRuntime, load: Load, task: usize) -> io::Result<()> {
     let mut plan = Plan::BLANK;
     match plan.make(&FirstFit, load.cores, load.unit, load.rates) {
@@ -150,5 +154,11 @@ fn main(rt: LibcRuntime) -> io::Result<()> {
         unit: 10,
         rates: &[4],
     };
-    show(&rt, spare, 0)
+    show(&rt, spare, 0)?;
+    let too_much = Load {
+        cores: 2,
+        unit: 3,
+        rates: &[3, 3, 1],
+    };
+    show(&rt, too_much, 0)
 }

@@ -87,7 +87,10 @@ fn refusals() -> Result<(), Fail> {
 fn a_refused_load_leaves_the_plan() -> Result<(), Fail> {
     let mut plan = Plan::BLANK;
     check_eq(plan.make(&WorstFit, 2, 3, &[2; 3]), Ok(()))?;
-    check_eq(plan.make(&WorstFit, 2, 3, &[2, 4, 0]), Err(Refusal::BadRate(1)))?;
+    check_eq(
+        plan.make(&WorstFit, 2, 3, &[2, 4, 0]),
+        Err(Refusal::BadRate(1)),
+    )?;
     check_eq(Refusal::BadRate(1).task(), Some(1))?;
     check_eq(plan.tasks, 3)?;
     check_eq(plan.path(2), [Some(2), Some(0), None, None, None])?;

@@ -71,7 +71,11 @@ fn print_clients(
 fn print_level(rt: &LibcRuntime, load: Load, depth: usize, level: &Level) -> io::Result<()> {
     println!(rt, "level {depth}")?;
     for (server, rate) in level.rates.iter().take(level.servers).enumerate() {
-        let root = if u32::from(*rate) == load.unit { ", a root" } else { "" };
+        let root = if u32::from(*rate) == load.unit {
+            ", a root"
+        } else {
+            ""
+        };
         print!(rt, "  server {server}, rate {rate}{root}")?;
         print_clients(rt, load, depth, level, server)?;
     }

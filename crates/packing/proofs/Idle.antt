@@ -14,7 +14,7 @@ use Rattle.std.proofs.shelf.Sums.{sumBy-cons, sumBy-append}
 use Rattle.std.proofs.shelf.Tests.{cases-eq, cases-lt, cond-true, cond-false, eq-eqb, ne-eqb}
 use Rattle.packing.specs.declared.refusal.Refusal.the-variants.{BadCores, BadUnit, BadTaskCount, BadRate, Overload}
 use Rattle.packing.specs.Packing.{Within}
-use Rattle.packing.specs.Plan.{spare, unless-zero, idle, tasks, Full-cores}
+use Rattle.packing.specs.Plan.{spare, unless-zero, idle, all-tasks, Full-cores}
 use Rattle.packing.specs.Refusals.{Allowed}
 use Rattle.packing.specs.Steps.{Limits}
 use Rattle.packing.specs.Tables.{over}
@@ -102,7 +102,7 @@ module _ (unit parts : ℕ) (a-unit : 1 ≤ unit) where
 -- ---- all tasks
 
 module _ (cores unit : ℕ) (sheet : List ℕ) (load : Limits cores unit sheet) where
-  pub full-tasks : Full-cores unit cores (tasks cores unit sheet)
+  pub full-tasks : Full-cores unit cores (all-tasks cores unit sheet)
   full-tasks = record {
     a-unit = load .a-unit;
     a-core = load .a-core;
@@ -111,7 +111,7 @@ module _ (cores unit : ℕ) (sheet : List ℕ) (load : Limits cores unit sheet) 
     full = sumBy-append (λ y. y) sheet (idle unit (spare cores unit sheet)) ∙ omega (arith, sum-idle unit (spare cores unit sheet) (load .a-unit), load .fits);
   }
 
-  pub few-tasks : length (tasks cores unit sheet) ≤ 80
+  pub few-tasks : length (all-tasks cores unit sheet) ≤ 80
   few-tasks =
       omega (
         arith,
@@ -148,9 +148,9 @@ module _ (cores unit : ℕ) (sheet : List ℕ) (load : Limits cores unit sheet) 
           ∙ over-over sheet (sheet ++ replicate w unit) old (omega (arith, length-append sheet (replicate w unit)))
 
       -- there is no rest
-      pub tasks-whole : r ≡ 0 → (length sheet + w ≡ length (tasks cores unit sheet)) × (new ≡ over (tasks cores unit sheet) old)
+      pub tasks-whole : r ≡ 0 → (length sheet + w ≡ length (all-tasks cores unit sheet)) × (new ≡ over (all-tasks cores unit sheet) old)
       tasks-whole none =
-          let same : sheet ++ replicate w unit ≡ tasks cores unit sheet =
+          let same : sheet ++ replicate w unit ≡ all-tasks cores unit sheet =
           ap (λ xs. sheet ++ xs)
           (sym (append-nil (replicate w unit))
           ∙ ap (λ n. replicate n unit ++ []) whole
@@ -158,10 +158,10 @@ module _ (cores unit : ℕ) (sheet : List ℕ) (load : Limits cores unit sheet) 
           (omega (arith, length-append sheet (replicate w unit), length-replicate w unit, ap length same), front ∙ ap (λ xs. over xs old) same)
 
       -- the rest stands behind the whole ones
-      pub tasks-rest : (r ≡ 0 → ⊥) → (length sheet + w + 1 ≡ length (tasks cores unit sheet)) × (set new (length sheet + w) r ≡ over (tasks cores unit sheet) old)
+      pub tasks-rest : (r ≡ 0 → ⊥) → (length sheet + w + 1 ≡ length (all-tasks cores unit sheet)) × (set new (length sheet + w) r ≡ over (all-tasks cores unit sheet) old)
       tasks-rest some =
           let count : length (sheet ++ replicate w unit) ≡ length sheet + w = length-append sheet (replicate w unit) ∙ ap (λ n. length sheet + n) (length-replicate w unit) in
-          let same : sheet ++ replicate w unit ++ r ∷ [] ≡ tasks cores unit sheet =
+          let same : sheet ++ replicate w unit ++ r ∷ [] ≡ all-tasks cores unit sheet =
           append-assoc sheet (replicate w unit) (r ∷ [])
           ∙ ap (λ n. sheet ++ (replicate n unit ++ r ∷ [])) whole
           ∙ ap (λ x. sheet ++ (replicate (spare cores unit sheet / unit) unit ++ x ∷ [])) rest

@@ -330,11 +330,13 @@ one-small-plan rule lawful unit cores items full =
     let made = plan rule lawful unit 4 items fills fits in
     let levels : List Packing = made .0 in
     let is-plan : IsPlan rule unit items levels = made .1 in
+    let small : Sized (bounds 4) levels = sized rule lawful unit 4 items fills fits levels is-plan in
     record {
       levels = levels;
       is-plan = is-plan;
       only = λ other p. same-plan rule unit items other levels p is-plan;
-      sized = first-sized rule unit items 31 (16 ∷ 8 ∷ 4 ∷ 2 ∷ []) (omega (arith, full .few-cores)) levels is-plan 32 (sized rule lawful unit 4 items fills fits levels is-plan);
+      few-reductions = omega (arith, sized-length (bounds 4) levels small);
+      sized = first-sized rule unit items 31 (16 ∷ 8 ∷ 4 ∷ 2 ∷ []) (omega (arith, full .few-cores)) levels is-plan 32 small;
       sound = sound-levels rule lawful unit items fills levels is-plan;
       cored = cored rule lawful unit (full .a-unit) items fills levels is-plan;
       climbs = λ i below. climbs rule lawful unit items fills levels is-plan i below (omega (arith, all-getD (Within unit) items i 0 below (full .within) .0));

@@ -11,7 +11,7 @@ use Rattle.packing.specs.declared.plan.Plan.{Plan}
 use Rattle.packing.specs.Fitting.{Rule, Lawful}
 use Rattle.packing.specs.Made.{Planned}
 use Rattle.packing.specs.Packing.{Packing}
-use Rattle.packing.specs.Plan.{tasks, IsPlan}
+use Rattle.packing.specs.Plan.{all-tasks, IsPlan}
 use Rattle.packing.specs.Refusals.{Allowed}
 use Rattle.packing.specs.Steps.{Packed, Built}
 use Rattle.packing.specs.Tables.{over, blank-level, level-table, plan-table, packing-in, levels-in}
@@ -52,18 +52,18 @@ plan-back unit xs levels =
 
 -- what `build` made of the tasks of an allowed load
 pub planned : (rule : Rule) → Lawful rule → (cores unit : ℕ) (sheet : List ℕ) → Allowed cores unit sheet → (table : List ℕ) (n : ℕ) (new : Plan)
-    → n ≡ length (tasks cores unit sheet) → table ≡ over (tasks cores unit sheet) (replicate 80 0) → Built rule unit table n new → Planned rule cores unit sheet new
+    → n ≡ length (all-tasks cores unit sheet) → table ≡ over (all-tasks cores unit sheet) (replicate 80 0) → Built rule unit table n new → Planned rule cores unit sheet new
 planned rule lawful cores unit sheet allowed table n new count written built =
     let load = limits cores unit sheet allowed in
-    let one = one-small-plan rule lawful unit cores (tasks cores unit sheet) (full-tasks cores unit sheet load) in
-    let front = tasks-front (tasks cores unit sheet) (replicate 80 0) table n count written in
+    let one = one-small-plan rule lawful unit cores (all-tasks cores unit sheet) (full-tasks cores unit sheet load) in
+    let front = tasks-front (all-tasks cores unit sheet) (replicate 80 0) table n count written in
     let same : built .0 ≡ one .levels = one .only (built .0) (subst (λ xs. IsPlan rule unit xs (built .0)) front (built .1)) in
     let as-built = built .2 in
-    let tables : new ≡ plan-table unit (tasks cores unit sheet) (one .levels) = cc in
+    let tables : new ≡ plan-table unit (all-tasks cores unit sheet) (one .levels) = cc in
     record {
       allowed = allowed;
       plan = one;
       few-tasks = few-tasks cores unit sheet load;
       tables = tables;
-      levels = ap levels-in tables ∙ plan-back unit (tasks cores unit sheet) (one .levels);
+      levels = ap levels-in tables ∙ plan-back unit (all-tasks cores unit sheet) (one .levels);
     }

@@ -13,7 +13,7 @@ use Rattle.packing.specs.declared.plan.Plan.{Plan}
 use Rattle.packing.specs.declared.refusal.Refusal.{Refusal}
 use Rattle.packing.specs.Fitting.{Rule}
 use Rattle.packing.specs.Packing.{servers-of, packing-of}
-use Rattle.packing.specs.Plan.{tasks, One-small-plan}
+use Rattle.packing.specs.Plan.{all-tasks, One-small-plan}
 use Rattle.packing.specs.Refusals.{First, Allowed}
 use Rattle.packing.specs.Tables.{level-table, plan-table, levels-in}
 
@@ -26,9 +26,9 @@ Packed-level rule unit items (Some l) = (length items ≤ 80) × (length (server
 -- plan of its tasks, and that is in the tables.
 pub record Planned (rule : Rule) (cores unit : ℕ) (sheet : List ℕ) (new : Plan) : Type 0 where
   pub allowed : Allowed cores unit sheet
-  pub plan : One-small-plan rule unit cores (tasks cores unit sheet)
-  pub few-tasks : length (tasks cores unit sheet) ≤ 80
-  pub tables : new ≡ plan-table unit (tasks cores unit sheet) (plan .levels)
+  pub plan : One-small-plan rule unit cores (all-tasks cores unit sheet)
+  pub few-tasks : length (all-tasks cores unit sheet) ≤ 80
+  pub tables : new ≡ plan-table unit (all-tasks cores unit sheet) (plan .levels)
   -- these tables stand for just that plan
   pub levels : levels-in new ≡ plan .levels
 

@@ -26,8 +26,8 @@ abbrev pub idle : ℕ → ℕ → List ℕ
 idle unit parts = replicate (parts / unit) unit ++ unless-zero (parts % unit)
 
 -- The rates of all tasks, by number: those of the sheet, then the idle ones.
-abbrev pub tasks : ℕ → ℕ → List ℕ → List ℕ
-tasks cores unit sheet = sheet ++ idle unit (spare cores unit sheet)
+abbrev pub all-tasks : ℕ → ℕ → List ℕ → List ℕ
+all-tasks cores unit sheet = sheet ++ idle unit (spare cores unit sheet)
 
 -- ---- the levels
 
@@ -95,12 +95,13 @@ pub record Full-cores (unit cores : ℕ) (items : List ℕ) : Type 0 where
   pub within : All (Within unit) items
   pub full : sum items ≡ cores * unit
 
--- There is exactly one plan. It has at most five levels, of at most 31, 16, 8, 4 and 2 servers, each a sound packing, and
--- from every item the way up ends in a root.
+-- There is exactly one plan. It has at most four reductions; its levels have at most 31, 16, 8, 4 and 2 servers, and each
+-- is a sound packing; and from every item the way up ends in a root.
 pub record One-small-plan (rule : Rule) (unit cores : ℕ) (items : List ℕ) : Type 0 where
   pub levels : List Packing
   pub is-plan : IsPlan rule unit items levels
   pub only : (other : List Packing) → IsPlan rule unit items other → other ≡ levels
+  pub few-reductions : length levels - 1 ≤ 4
   pub sized : Sized (31 ∷ 16 ∷ 8 ∷ 4 ∷ 2 ∷ []) levels
   pub sound : Sound-levels unit items levels
   pub cored : Cored unit cores levels

@@ -25,7 +25,7 @@ pub struct Level {
 
 impl Level {
     /// A level with no item and no server.
-    pub const BLANK: Level = Level {
+    pub(crate) const BLANK: Level = Level {
         homes: [None; TASKS],
         items: 0,
         rates: [0; SERVERS],

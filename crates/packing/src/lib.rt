@@ -1,4 +1,5 @@
 //! Packing the tasks of a load into servers, level by level, by a fitting rule: the plan of a run.
+mod build;
 mod check;
 mod fitting;
 mod level;
@@ -7,6 +8,7 @@ mod place;
 mod plan;
 mod refusal;
 pub mod rules;
+mod tasks;
 
 pub use fitting::Fitting;
 pub use level::Level;

@@ -9,7 +9,7 @@ use std::test::*;
 
 /// The number of the refusal of a load by first fit; 0 where it is planned.
 fn refused(cores: u32, unit: u32, rates: &[u16]) -> u8 {
-    let mut plan = Plan::BLANK;
+    let mut plan = Plan::blank();
     match plan.make(&FirstFit, cores, unit, rates) {
         Ok(()) => 0,
         Err(refusal) => refusal.number(),
@@ -18,7 +18,7 @@ fn refused(cores: u32, unit: u32, rates: &[u16]) -> u8 {
 
 /// How many servers each level has; 0 above the last.
 fn servers(cores: u32, unit: u32, rates: &[u16]) -> [usize; 5] {
-    let mut plan = Plan::BLANK;
+    let mut plan = Plan::blank();
     let _ = plan.make(&FirstFit, cores, unit, rates);
     [
         plan.levels[0].servers,
@@ -60,7 +60,7 @@ fn servers_by_level() -> Result<(), Fail> {
 
 #[test]
 fn idle_tasks_fill_the_cores() -> Result<(), Fail> {
-    let mut plan = Plan::BLANK;
+    let mut plan = Plan::blank();
     let _ = plan.make(&FirstFit, 2, 10, &[4]);
     check_eq(plan.tasks, 3)?;
     check_eq(plan.rates[1], 10)?;
@@ -85,7 +85,7 @@ fn refusals() -> Result<(), Fail> {
 
 #[test]
 fn a_refused_load_leaves_the_plan() -> Result<(), Fail> {
-    let mut plan = Plan::BLANK;
+    let mut plan = Plan::blank();
     check_eq(plan.make(&WorstFit, 2, 3, &[2; 3]), Ok(()))?;
     check_eq(
         plan.make(&WorstFit, 2, 3, &[2, 4, 0]),

@@ -2,7 +2,7 @@ use mathlib.Core.Path.{_≡_}
 use Prim.Native.Nat.{_≤_}
 use lib.ListN.{length, take}
 use Rattle.packing.proofs.Reached.{Reached}
-use Rattle.packing.proofs.plan.build.Given as given
+use Rattle.packing.proofs.build.build.Given as given
 
 -- the levels so far stand in the table, and the items of the next are at hand
 abbrev pub Inv-loop-depth : given.InvT-loop-depth

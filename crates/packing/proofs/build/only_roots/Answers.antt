@@ -4,7 +4,7 @@ use Rattle.std.specs.shelf.Lists.{All}
 use Rattle.std.proofs.shelf.Lists.{take-all}
 use Rattle.std.proofs.shelf.Elements.{all-getD, all-more}
 use Rattle.std.proofs.shelf.Tests.{false≢true}
-use Rattle.packing.proofs.plan.only_roots.Needs as need
+use Rattle.packing.proofs.build.only_roots.Needs as need
 
 pub returns-then-rate-unit : need.returns-then-rate-unit
 returns-then-rate-unit c = (

@@ -10,7 +10,7 @@ use Rattle.std.proofs.shelf.Tests.{both-ways}
 use Rattle.packing.specs.Packing.{servers-of}
 use Rattle.packing.proofs.Plans.{one-small-plan}
 use Rattle.packing.proofs.Reached.{Reached, reached-none, few-servers, few-levels, part, turn-all, turn-more}
-use Rattle.packing.proofs.plan.build.Needs as need
+use Rattle.packing.proofs.build.build.Needs as need
 
 pub loop-depth-holds : need.loop-depth-holds
 loop-depth-holds g c =

@@ -2,7 +2,7 @@ use mathlib.Core.Path.{ap, _∙_}
 use Rattle.std.proofs.shelf.Lists.{take-all}
 use Rattle.packing.specs.Tables.{over}
 use Rattle.packing.proofs.Over.{over-more}
-use Rattle.packing.proofs.plan.write_rates.Needs as need
+use Rattle.packing.proofs.tasks.write_rates.Needs as need
 
 pub loop-i-again : need.loop-i-again
 loop-i-again c =

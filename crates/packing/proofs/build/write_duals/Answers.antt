@@ -5,7 +5,7 @@ use Rattle.std.proofs.shelf.Lists.{take-all}
 use Rattle.packing.specs.Tables.{over}
 use Rattle.packing.specs.Plan.{duals}
 use Rattle.packing.proofs.Over.{over-map-more}
-use Rattle.packing.proofs.plan.write_duals.Needs as need
+use Rattle.packing.proofs.build.write_duals.Needs as need
 
 pub loop-i-again : need.loop-i-again
 loop-i-again c =

@@ -1,6 +1,6 @@
 use native.Mathlib.Omega.{arith}
 use Rattle.packing.proofs.Idle.{few-tasks, whole-is, rest-is, room-whole, room-rest, tasks-whole, tasks-rest}
-use Rattle.packing.proofs.plan.write_tasks.Needs as need
+use Rattle.packing.proofs.tasks.write_tasks.Needs as need
 
 pub write-whole-requires : need.write-whole-requires
 write-whole-requires c κs =

@@ -5,7 +5,7 @@ use lib.ListN.{take, replicate}
 use Rattle.std.proofs.shelf.Lists.{append-nil, length-take-le}
 use Rattle.packing.specs.Tables.{over}
 use Rattle.packing.proofs.Over.{over-take, over-replicate-more}
-use Rattle.packing.proofs.plan.write_whole.Needs as need
+use Rattle.packing.proofs.tasks.write_whole.Needs as need
 
 pub loop-i-holds : need.loop-i-holds
 loop-i-holds c =

@@ -79,9 +79,6 @@ homes-set rule unit items i within old new h room was is =
     ∙ ap (λ x. over (hs ++ x ∷ []) old) is
     ∙ ap (λ xs. over xs old) (sym (homes-more rule unit items i within))
 
-pub packed-none : (rule : Rule) (unit : ℕ) (homes : List (Option ℕ)) (used : List ℕ) → Packed (packing-of rule unit []) 0 homes homes used used
-packed-none rule unit homes used = record { servers = refl; room = omega arith; used = refl; homes = refl }
-
 module _ (rule : Rule) (unit : ℕ) (items : List ℕ) (i : ℕ) (n : ℕ) (old-homes homes : List (Option ℕ)) (old used : List ℕ)
     (within : i < length items) (room : i < length old-homes) (before : Packed (packing-of rule unit (take i items)) n old-homes homes old used) where
   -- rate 0: no item

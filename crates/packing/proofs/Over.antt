@@ -5,7 +5,7 @@ use Prim.Native.Nat.{ℕ, suc, _+_, _-_, _≤_, _<_}
 use native.Mathlib.Omega.{arith}
 use lib.ListN.{length, getD, set, take, drop, replicate}
 use lib.Seq.{append-snoc, drop-cons, drop-append-add, drop-drop, take-append-seam, set-append-seam}
-use Rattle.std.proofs.shelf.Lists.{length-append, length-push, length-drop, length-map, length-take-le, length-replicate, map-more, take-more, take-append-drop, append-assoc, append-nil, replicate-more}
+use Rattle.std.proofs.shelf.Lists.{length-append, length-push, length-drop, length-map, length-take-le, length-replicate, map-more, take-more, take-append-drop, append-assoc, replicate-more}
 use Rattle.packing.specs.Tables.{over}
 
 pub over-over : {X : Type 0} (xs ys old : List X) → length xs ≤ length ys → over ys (over xs old) ≡ over ys old

@@ -2,7 +2,6 @@
 use mathlib.Core.List.{List, _++_, map}
 use Prim.Native.Nat.{ℕ}
 use lib.ListN.{length, take, drop, replicate}
-use Rattle.std.specs.declared.option.Option.{Option}
 use Rattle.std.specs.declared.option.Option.the-variants.{None}
 use Rattle.packing.specs.declared.level.Level.{Level}
 use Rattle.packing.specs.declared.plan.Plan.{Plan}

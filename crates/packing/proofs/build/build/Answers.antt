@@ -1,7 +1,6 @@
 use borrow.Author.Needs.{needs}
-use mathlib.Core.Path.{_≡_, refl, sym, ap, subst, _∙_}
+use mathlib.Core.Path.{refl, ap, _∙_}
 use mathlib.Core.Logic.{⊎-elim}
-use mathlib.Core.List.{List}
 use Prim.Native.Nat.{_≤_, _<_}
 use native.Mathlib.Omega.{arith}
 use lib.ListN.{length, take}
@@ -9,7 +8,7 @@ use Rattle.std.proofs.shelf.Lists.{length-set, length-take-le}
 use Rattle.std.proofs.shelf.Tests.{both-ways}
 use Rattle.packing.specs.Packing.{servers-of}
 use Rattle.packing.proofs.Plans.{one-small-plan}
-use Rattle.packing.proofs.Reached.{Reached, reached-none, few-servers, few-levels, part, turn-all, turn-more}
+use Rattle.packing.proofs.Reached.{reached-none, few-servers, few-levels, part, turn-all, turn-more}
 use Rattle.packing.proofs.build.build.Needs as need
 
 pub loop-depth-holds : need.loop-depth-holds

@@ -1,4 +1,6 @@
 //! Shows whom the two choosing rules name, tick by tick, until a server has nothing left.
+#![tactic(auto)]
+
 ghost use Rattle.std.specs.Prelude.{◌≡◌};
 ghost use Rattle.choosing.specs.Balance.{spent};
 ghost use Rattle.choices.specs.Served.{server_after, clients_after, StaysBalanced};

@@ -1,4 +1,6 @@
 //! Which client of a server runs next: choosing rules, and the balance that they keep.
+#![tactic(auto)]
+
 mod careless;
 mod choosing;
 mod limits;

@@ -1,4 +1,6 @@
 //! The tasks that a tick names, each on its core, and how many tasks a tick preempts.
+#![tactic(auto)]
+
 mod count;
 mod limits;
 mod passes;

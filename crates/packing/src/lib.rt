@@ -1,4 +1,6 @@
 //! Packing the tasks of a load into servers, level by level, by a fitting rule: the plan of a run.
+#![tactic(auto)]
+
 mod build;
 mod check;
 mod fitting;

@@ -1,4 +1,6 @@
 //! Shows the plans of some loads, level by level, and follows one task of each up to its root.
+#![tactic(auto)]
+
 use packing::rules::FirstFit;
 use packing::{Level, Plan, Refusal};
 use std::io;

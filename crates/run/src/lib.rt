@@ -1,4 +1,6 @@
 //! The scheduler: opening a run, announcing jobs, ticking, and asking.
+#![tactic(auto)]
+
 mod announcing;
 mod asking;
 mod call;

@@ -1,4 +1,6 @@
 //! Reads a load sheet: its head, and its tasks into a table of the caller's; or says where it is wrong, and why.
+#![tactic(auto)]
+
 mod class;
 mod fault;
 mod forms;

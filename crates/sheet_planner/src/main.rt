@@ -1,5 +1,7 @@
 //! Reads a load sheet from standard input and prints its plan by first fit, level by level; or `no` with the number, the line
 //! and the place of its refusal, and ends with status 1.
+#![tactic(auto)]
+
 mod show;
 
 use packing::rules::FirstFit;

@@ -1,5 +1,7 @@
 //! Reads a table of sheets from standard input, one to a line, and prints for each what it holds, or why it or its opening is
 //! refused.
+#![tactic(auto)]
+
 mod escape;
 
 use escape::unescape;

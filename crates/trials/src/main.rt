@@ -1,5 +1,7 @@
 //! Reads a table of calls from standard input, puts them to runs, and prints each line with the answer; `?` where a line is no
 //! call.
+#![tactic(auto)]
+
 mod answer;
 mod call;
 mod runs;

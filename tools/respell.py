@@ -16,6 +16,9 @@ WORD = re.compile(r"^[^\W\d][\w']*(-[\w'ℕ]+)+$")
 # what a file of proofs for one function is called
 GENERATED = ("Answers.antt", "Invariants.antt", "Choices.antt")
 
+# Facts that would have a struct's name.
+TAKEN = {n: "Is" + n.title().replace("-", "") for n in ("First-fit", "Best-fit", "Worst-fit", "Earliest-deadline", "Least-slack")}
+
 
 def crate_files(pattern):
     return sorted(f for f in glob.glob("crates/*/" + pattern, recursive=True) if "/out/" not in f)
@@ -31,6 +34,8 @@ def tokens(text):
 
 
 def respelled(name):
+    if name in TAKEN:
+        return TAKEN[name]
     parts = name.split("-")
     if name[0].isupper():
         return "".join(p[:1].upper() + p[1:] for p in parts)

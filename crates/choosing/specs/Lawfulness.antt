@@ -9,7 +9,7 @@ use Rattle.std.proofs.lemmas.List.MinMax.{IsStrictWeakOrder-by_number}
 use Rattle.choosing.specs.declared.share.Share.{Share}
 use Rattle.choosing.specs.Balance.{at, demand, supply, Loosely}
 use Rattle.choosing.specs.Choosing.{HasLeft, Names, Lawful}
-use Rattle.choosing.specs.Rules.{EarliestDeadline, LeastSlack, slack, first_place, unbeaten, first_unbeaten, sooner, tighter, earliest_deadline, least_slack}
+use Rattle.choosing.specs.Rules.{IsEarliestDeadline, IsLeastSlack, slack, first_place, unbeaten, first_unbeaten, sooner, tighter, earliest_deadline, least_slack}
 use Rattle.choosing.specs.Balances.{spent_balanced, earliest_spare, least_spare}
 use Rattle.choosing.specs.Bests.{Leads, Best, first_is_best}
 use Rattle.choosing.specs.Slacks.{tighter_false, same_slack}
@@ -57,7 +57,7 @@ leads_first {beats} {cs} {j} b k has = elim (cases_Bool (beats (at cs j) (at cs 
 
 -- ---- the two rules name whom their names say
 
-pub earliest_deadline_names : (s : Share) (cs : List Share) → EarliestDeadline cs (earliest_deadline s cs)
+pub earliest_deadline_names : (s : Share) (cs : List Share) → IsEarliestDeadline cs (earliest_deadline s cs)
 earliest_deadline_names s cs = names_leader (IsStrictWeakOrder-by_number (λ (c : Share). c.deadline)) cs _ (λ j b k has. elim (leads_first b k has) [
   | inl won ↦ inl (ltb-true (at cs j).deadline (at cs k).deadline won)
   | inr same ↦ inr (omega (arith, ltb-false (at cs j).deadline (at cs k).deadline same.0, ltb-false (at cs k).deadline (at cs j).deadline same.1), same.2)
@@ -66,7 +66,7 @@ earliest_deadline_names s cs = names_leader (IsStrictWeakOrder-by_number (λ (c 
 ranks_tighter : (s : Share) → IsStrictWeakOrder (tighter s)
 ranks_tighter s = record { one_way = λ x y e. grind (arith, ints); chain = λ x y z e f. grind (arith, ints) }
 
-pub least_slack_names : (s : Share) (cs : List Share) → LeastSlack s cs (least_slack s cs)
+pub least_slack_names : (s : Share) (cs : List Share) → IsLeastSlack s cs (least_slack s cs)
 least_slack_names s cs = names_leader (ranks_tighter s) cs _ (λ j b k has. elim (leads_first b k has) [
   | inl won ↦ inl (lt_z_yes (subst (λ t. T t) (sym won) tt))
   | inr same ↦ inr (same_slack s (at cs j) (at cs k) same.0 same.1, same.2)

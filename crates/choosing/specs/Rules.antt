@@ -8,8 +8,8 @@ use Rattle.choosing.specs.Choosing.{Rule, HasLeft, Names}
 -- ---- whom each names
 
 -- Earliest deadline names the client with left that has the earliest deadline, the first of equals.
-abbrev pub EarliestDeadline : List Share → Option ℕ → Type 0
-EarliestDeadline cs =
+abbrev pub IsEarliestDeadline : List Share → Option ℕ → Type 0
+IsEarliestDeadline cs =
     Names cs (λ j. (k : ℕ) → HasLeft cs k → ((at cs j).deadline < (at cs k).deadline) ⊎ (((at cs j).deadline ≡ (at cs k).deadline) × (j ≤ k)))
 
 -- The slack of a client: what its server brings up to the client's deadline, less what the client has left. It may be negative.
@@ -17,8 +17,8 @@ unfoldable pub slack : Share → Share → ℤ
 slack s c = pos s.left +ℤ pos s.rate *ℤ (pos c.deadline -ℤ pos s.deadline) -ℤ pos c.left
 
 -- Least slack names the client with left that has the least slack, the first of equals.
-abbrev pub LeastSlack : Share → List Share → Option ℕ → Type 0
-LeastSlack s cs =
+abbrev pub IsLeastSlack : Share → List Share → Option ℕ → Type 0
+IsLeastSlack s cs =
     Names cs (λ j. (k : ℕ) → HasLeft cs k → (slack s (at cs j) <ℤ slack s (at cs k)) ⊎ ((slack s (at cs j) ≡ slack s (at cs k)) × (j ≤ k)))
 
 -- ---- the rules as functions: the first client with left that no other with left beats

@@ -2,7 +2,7 @@
 ghost use Rattle.std.specs.Prelude.{◌≡◌, Bool};
 ghost use Rattle.std.specs.Cmp.{IsStrictWeakOrder};
 ghost use Rattle.choosing.specs.declared.share.Share.{Share};
-ghost use Rattle.choosing.specs.Rules.{EarliestDeadline, LeastSlack, slack, sooner, tighter, first_unbeaten, earliest_deadline, least_slack};
+ghost use Rattle.choosing.specs.Rules.{IsEarliestDeadline, IsLeastSlack, slack, sooner, tighter, first_unbeaten, earliest_deadline, least_slack};
 ghost use Rattle.std.proofs.Common.{rules};
 ghost use Rattle.choosing.specs.Lawfulness.{earliest_deadline_lawful, least_slack_lawful};
 ghost use Rattle.choosing.specs.Steadiness.{earliest_deadline_goes_on};
@@ -24,7 +24,7 @@ trait Preference {
 
 /// The preferred client with left; none where there are more than 80 clients.
 fn preferred<P: Preference>(preference: &P, server: Share, clients: &[Share]) -> Option<usize>
-    ensures { result ≡ first_unbeaten (beats preference.now server) clients.now }
+    ensures { result ≡ first_unbeaten (P.beats preference.now server) clients.now }
 {
     if clients.len() > CLIENTS {
         return None;
@@ -62,7 +62,7 @@ impl Choosing for EarliestDeadline {
 
     fn choose(&self, server: Share, clients: &[Share]) -> Option<usize>
         ensures answer { result ≡ earliest_deadline server clients.now }
-        ensures meaning { EarliestDeadline clients.now result }
+        ensures meaning { IsEarliestDeadline clients.now result }
     {
         preferred(self, server, clients)
     }
@@ -102,7 +102,7 @@ impl Choosing for LeastSlack {
 
     fn choose(&self, server: Share, clients: &[Share]) -> Option<usize>
         ensures answer { result ≡ least_slack server clients.now }
-        ensures meaning { LeastSlack server clients.now result }
+        ensures meaning { IsLeastSlack server clients.now result }
     {
         preferred(self, server, clients)
     }

@@ -6,7 +6,7 @@ use Rattle.std.proofs.lemmas.Bool.{cases_Bool, cases_eq, cases_lt, cond-true, co
 use Rattle.packing.specs.declared.rules.Preference.{Preference}
 use Rattle.packing.specs.declared.rules.Preference.TheVariants.{Earliest, Fullest, Emptiest}
 use Rattle.packing.specs.Fitting.{Room, Names, Lawful}
-use Rattle.packing.specs.Rules.{FirstFit, BestFit, WorstFit, wins, takes_over, better, best_from, preferred}
+use Rattle.packing.specs.Rules.{IsFirstFit, IsBestFit, IsWorstFit, wins, takes_over, better, best_from, preferred}
 
 -- ---- what the test of two servers says
 
@@ -161,11 +161,11 @@ module _ (p : Preference) (used : List ℕ) (unit rate : ℕ) where
 pub preferred_lawful : (p : Preference) → Lawful (preferred p)
 preferred_lawful p used unit rate = names p used unit rate (λ _. Unit {0}) (λ j b. tt)
 
-pub first_fit : (used : List ℕ) (unit rate : ℕ) → FirstFit used unit rate (preferred Earliest used unit rate)
+pub first_fit : (used : List ℕ) (unit rate : ℕ) → IsFirstFit used unit rate (preferred Earliest used unit rate)
 first_fit used unit rate =
     names Earliest used unit rate _ (λ j b k room. ⊎_elim (λ before. absurd (b.first k before room)) (λ (after : j ≤ k). after) (cases_lt k j))
 
-pub best_fit : (used : List ℕ) (unit rate : ℕ) → BestFit used unit rate (preferred Fullest used unit rate)
+pub best_fit : (used : List ℕ) (unit rate : ℕ) → IsBestFit used unit rate (preferred Fullest used unit rate)
 best_fit used unit rate =
     names Fullest used unit rate _ (λ j b k room.
     let here = b.room.1 in
@@ -176,7 +176,7 @@ best_fit used unit rate =
     ⊎_elim (λ same. inr (omega (arith, same), after)) (λ other. inl (omega arith)) (cases_eq (slice_index used j) (slice_index used k)))
     (cases_lt k j))
 
-pub worst_fit : (used : List ℕ) (unit rate : ℕ) → WorstFit used unit rate (preferred Emptiest used unit rate)
+pub worst_fit : (used : List ℕ) (unit rate : ℕ) → IsWorstFit used unit rate (preferred Emptiest used unit rate)
 worst_fit used unit rate =
     names Emptiest used unit rate _ (λ j b k room.
     let here = b.room.1 in

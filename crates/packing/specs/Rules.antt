@@ -9,17 +9,17 @@ abbrev pub free : List ℕ → ℕ → ℕ → ℕ
 free used unit j = unit - slice_index used j
 
 -- First fit names the first server with room.
-abbrev pub FirstFit : List ℕ → ℕ → ℕ → Option ℕ → Type 0
-FirstFit used unit rate = Names used unit rate (λ j. (k : ℕ) → Room used unit rate k → j ≤ k)
+abbrev pub IsFirstFit : List ℕ → ℕ → ℕ → Option ℕ → Type 0
+IsFirstFit used unit rate = Names used unit rate (λ j. (k : ℕ) → Room used unit rate k → j ≤ k)
 
 -- Best fit names the server with room that has the fewest parts free, the first of equals.
-abbrev pub BestFit : List ℕ → ℕ → ℕ → Option ℕ → Type 0
-BestFit used unit rate =
+abbrev pub IsBestFit : List ℕ → ℕ → ℕ → Option ℕ → Type 0
+IsBestFit used unit rate =
     Names used unit rate (λ j. (k : ℕ) → Room used unit rate k → (free used unit j < free used unit k) ⊎ ((free used unit j ≡ free used unit k) × (j ≤ k)))
 
 -- Worst fit names the server with room that has the most parts free, the first of equals.
-abbrev pub WorstFit : List ℕ → ℕ → ℕ → Option ℕ → Type 0
-WorstFit used unit rate =
+abbrev pub IsWorstFit : List ℕ → ℕ → ℕ → Option ℕ → Type 0
+IsWorstFit used unit rate =
     Names used unit rate (λ j. (k : ℕ) → Room used unit rate k → (free used unit k < free used unit j) ⊎ ((free used unit j ≡ free used unit k) × (j ≤ k)))
 
 -- The rules as functions: one pass over the open servers that keeps the best with room so far.

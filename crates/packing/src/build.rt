@@ -37,7 +37,7 @@ fn only_roots(rates: &[u16], unit: u16) -> bool
 /// The plan of tasks that fill whole cores: packs the items of one level after the other, until a level has only roots.
 fn build<F: Fitting>(rule: &F, unit: u16, rates: [u16; TASKS], tasks: usize) -> Plan
     requires { (tasks ≤ 80) × (FillsCores unit (take tasks rates)) }
-    ensures { Built (fits rule.now) unit rates tasks result }
+    ensures { Built (F.fits rule.now) unit rates tasks result }
 {
     let mut levels = [Level::BLANK; LEVELS];
     let mut items = rates;
@@ -66,7 +66,7 @@ fn build<F: Fitting>(rule: &F, unit: u16, rates: [u16; TASKS], tasks: usize) -> 
 /// The plan of an allowed load.
 pub(crate) fn plan_of<F: Fitting>(rule: &F, cores: u32, unit: u32, rates: &[u16]) -> Plan
     requires { Allowed cores unit rates.now }
-    ensures { Planned (fits rule.now) cores unit rates.now result }
+    ensures { Planned (F.fits rule.now) cores unit rates.now result }
 {
     let unit = unit as u16;
     let mut tasks = [0; TASKS];

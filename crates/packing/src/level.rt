@@ -33,7 +33,7 @@ impl Level {
     /// Places items of these rates in order, each in the server that the rule names, or in a new one where it names none.
     /// A rate of 0 is no item. None where there are more than 80 items or 31 servers.
     pub fn pack<F: Fitting>(rule: &F, unit: u16, items: &[u16]) -> Option<Level>
-        ensures { PackedLevel (fits rule.now) unit items.now result }
+        ensures { PackedLevel (F.fits rule.now) unit items.now result }
     {
         if items.len() > TASKS {
             return None;

@@ -16,8 +16,8 @@ fn place<F: Fitting>(
 ) -> Option<usize>
     requires { count ≤ length used.old }
     ensures { MatchOption result
-        ((fits rule.now (take count used.old) unit rate ≡ None) × (count ≡ length used.old))
-        (λ home. Placed (fits rule.now (take count used.old) unit rate) (take count used.old) rate home used.old used.new) }
+        ((F.fits rule.now (take count used.old) unit rate ≡ None) × (count ≡ length used.old))
+        (λ home. Placed (F.fits rule.now (take count used.old) unit rate) (take count used.old) rate home used.old used.new) }
 {
     match rule.fit(&used[0..count], unit, rate) {
         Some(home) => {
@@ -45,8 +45,8 @@ pub(crate) fn pack<F: Fitting>(
 ) -> Option<usize>
     requires { (length items.now ≤ length homes.old) × (length used.old ≤ 256) }
     ensures { MatchOption result
-        (length used.old < length (servers_of (fits rule.now) unit items.now))
-        (λ n. Packed (packing_of (fits rule.now) unit items.now) n homes.old homes.new used.old used.new) }
+        (length used.old < length (servers_of (F.fits rule.now) unit items.now))
+        (λ n. Packed (packing_of (F.fits rule.now) unit items.now) n homes.old homes.new used.old used.new) }
 {
     let mut count = 0;
     for (i, rate) in items.iter().enumerate() {

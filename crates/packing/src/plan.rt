@@ -50,7 +50,7 @@ impl Plan {
         unit: u32,
         rates: &[u16],
     ) -> Result<(), Refusal>
-        ensures { Made (fits rule.now) cores unit rates.now self.old self.new result }
+        ensures { Made (F.fits rule.now) cores unit rates.now self.old self.new result }
     {
         if let Some(refusal) = first_refusal(cores, unit, rates) {
             return Err(refusal);

@@ -1,7 +1,7 @@
 //! The three fitting rules: first fit, best fit and worst fit.
 ghost use Rattle.std.specs.Prelude.{◌≡◌, ◌+◌, ◌<◌, length, IfSome, nat_le};
 ghost use Rattle.packing.specs.declared.rules.Preference.TheVariants.{Earliest, Fullest, Emptiest};
-ghost use Rattle.packing.specs.Rules.{FirstFit, BestFit, WorstFit, preferred, wins, takes_over, better};
+ghost use Rattle.packing.specs.Rules.{IsFirstFit, IsBestFit, IsWorstFit, preferred, wins, takes_over, better};
 ghost use Rattle.packing.specs.Preferred.{preferred_lawful};
 
 use crate::Fitting;
@@ -69,7 +69,7 @@ impl Fitting for FirstFit {
 
     fn fit(&self, used: &[u16], unit: u16, rate: u16) -> Option<usize>
         ensures answer { result ≡ preferred Earliest used.now unit rate }
-        ensures meaning { FirstFit used.now unit rate result }
+        ensures meaning { IsFirstFit used.now unit rate result }
     {
         Preference::Earliest.choose(used, unit, rate)
     }
@@ -86,7 +86,7 @@ impl Fitting for BestFit {
 
     fn fit(&self, used: &[u16], unit: u16, rate: u16) -> Option<usize>
         ensures answer { result ≡ preferred Fullest used.now unit rate }
-        ensures meaning { BestFit used.now unit rate result }
+        ensures meaning { IsBestFit used.now unit rate result }
     {
         Preference::Fullest.choose(used, unit, rate)
     }
@@ -103,7 +103,7 @@ impl Fitting for WorstFit {
 
     fn fit(&self, used: &[u16], unit: u16, rate: u16) -> Option<usize>
         ensures answer { result ≡ preferred Emptiest used.now unit rate }
-        ensures meaning { WorstFit used.now unit rate result }
+        ensures meaning { IsWorstFit used.now unit rate result }
     {
         Preference::Emptiest.choose(used, unit, rate)
     }

@@ -7,18 +7,18 @@ use Rattle.choosing.proofs.rules.slack_of.Goals as goal
 abbrev Known : Share → Share → Type 0
 Known s c = Small s.left s.rate c.deadline s.deadline c.left
 
-pub overflow-mul-result : goal.overflow-mul-result
-overflow-mul-result c =
+pub overflow_mul-result : goal.overflow_mul-result
+overflow_mul-result c =
     let b : Known c.args.server c.args.client = omega arith in
     product_fits _ _ _ _ _ b
 
-pub overflow-add-result : goal.overflow-add-result
-overflow-add-result c =
+pub overflow_add-result : goal.overflow_add-result
+overflow_add-result c =
     let b : Known c.args.server c.args.client = omega arith in
     total_fits _ _ _ _ _ b
 
-pub overflow-sub-result : goal.overflow-sub-result
-overflow-sub-result c =
+pub overflow_sub-result : goal.overflow_sub-result
+overflow_sub-result c =
     let b : Known c.args.server c.args.client = omega arith in
     spare_fits _ _ _ _ _ b
 

@@ -4,7 +4,7 @@ use Rattle.std.proofs.lemmas.List.{take_all}
 use Rattle.cores.specs.Counting.{LookedUp, missing, preemptions}
 use Rattle.cores.specs.Naming.{member}
 use Rattle.cores.proofs.count.preempted.Goals as goal
-use Rattle.cores.proofs.count.preempted.Goals.{in-Some, in-default}
+use Rattle.cores.proofs.count.preempted.Goals.{in-Some, in_default}
 
 -- a task counts if it is not named
 abbrev one : Bool → ℕ
@@ -19,12 +19,12 @@ loop-task-preserved c =
     let named = c.args.named.now in
     let i = c.loop-task.task-index in
     let more = length-filter_more (λ t. not (member t named)) c.args.unfinished.now i 0 c.loop-task-test.true in
-    let new = missing_is named (get_or c.args.unfinished.now i 0) c.look-up-place.result c.look-up-place.ensures in
+    let new = missing_is named (get_or c.args.unfinished.now i 0) c.look_up-place.result c.look_up-place.ensures in
     let told = c.counted-count.ensures in (
       omega (arith, told, c.loop-task.invariant.0, new.0),
       elim c.match-place.branch [
         | in-Some w ↦ omega (arith, w.next-is, w.in-Some.ensures.0)
-        | in-default w ↦ omega (arith, w.next-is, c.loop-task.invariant.1)
+        | in_default w ↦ omega (arith, w.next-is, c.loop-task.invariant.1)
       ],
       omega (arith, told, c.loop-task.invariant.2, more, new.1),
     )

@@ -11,7 +11,7 @@ loop-task-preserved c =
     let cores = c.args.cores in
     let i = c.loop-task.task-index in
     c.claim.ensures
-    ∙ ap (claim cores c.loop-task.slots (get_or named i 0)) c.last-core-core.ensures
+    ∙ ap (claim cores c.loop-task.slots (get_or named i 0)) c.last_core-core.ensures
     ∙ ap (λ s. claims last cores s (get_or named i 0)) c.loop-task.invariant
     ∙ sym (fold_more (claims last cores) c.args.slots.now named i 0 c.loop-task-test.true)
 

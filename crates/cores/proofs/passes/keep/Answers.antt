@@ -13,13 +13,13 @@ loop-task-preserved c =
     let cores = c.args.cores in
     let t = get_or c.args.named.now c.loop-task.task-index 0 in
     let slots = c.loop-task.slots in
-    let stays : c.has-stays.result ≡ seated before t = c.has-stays.ensures ∙ ap (has c.args.held.now t) c.last-core-core.ensures in
+    let stays : c.has-stays.result ≡ seated before t = c.has-stays.ensures ∙ ap (has c.args.held.now t) c.last_core-core.ensures in
     let more = sym (ap (λ s. keeps before cores s t) c.loop-task.invariant ∙ sym (fold_more (keeps before cores) c.args.slots.now named c.loop-task.task-index 0 c.loop-task-test.true)) in
     elim c.if-stays.branch [
       | then-stays w ↦
           w.slots-is
           ∙ w.claim.ensures
-          ∙ ap (claim cores slots t) c.last-core-core.ensures
+          ∙ ap (claim cores slots t) c.last_core-core.ensures
           ∙ sym (more ∙ cond-true (seated before t) (claims c.args.last.now cores slots t) slots (sym stays ∙ w.if-stays.true))
       | else-stays w ↦
           w.slots-is ∙ sym (more ∙ cond-false (seated before t) (claims c.args.last.now cores slots t) slots (sym stays ∙ w.if-stays.false))

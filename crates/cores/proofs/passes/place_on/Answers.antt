@@ -9,7 +9,7 @@ returns c =
     let cores = c.args.cores in
     record {
       placed =
-          c.settle-rest.ensures
-          ∙ ap (λ s. fold (settles cores) (tables last s) named) (c.come-back.ensures ∙ ap (λ s. fold (claims last cores) s named) c.keep.ensures);
+          c.settle_rest.ensures
+          ∙ ap (λ s. fold (settles cores) (tables last s) named) (c.come_back.ensures ∙ ap (λ s. fold (claims last cores) s named) c.keep.ensures);
       table = c.told-last;
     }

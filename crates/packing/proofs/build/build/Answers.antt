@@ -28,13 +28,13 @@ unreachable-requires g c =
     ⊎_elim
     (λ many. omega (arith, many, ap length same, count))
     (λ many. omega (arith, many, few, ap (λ xs. length (servers_of rule c.args.unit xs)) same))
-    c.in-default.ensures
+    c.in_default.ensures
 
-pub returns-then-only-roots : goal.returns-then-only-roots
-returns-then-only-roots g c =
+pub returns-then-only_roots : goal.returns-then-only_roots
+returns-then-only_roots g c =
     let end =
     turn_all (g.F.Fitting.fits c.args.rule.now) c.args.unit (take c.args.tasks c.args.rates) c.loop-depth.depth c.loop-depth.levels
-    c.loop-depth.count c.loop-depth.items c.loop-depth.invariant.3 c.in-Some.level c.in-Some.ensures.2 (c.if-only-roots.ensures.0 refl) in
+    c.loop-depth.count c.loop-depth.items c.loop-depth.invariant.3 c.in-Some.level c.in-Some.ensures.2 (c.if-only_roots.ensures.0 refl) in
     let depth = end.2 in
     let levels = end.3 in
     (end.0, end.1, cc)
@@ -43,11 +43,11 @@ pub loop-depth-preserved : goal.loop-depth-preserved
 loop-depth-preserved g c =
     let packed = c.in-Some.ensures in (
       omega (arith, packed.1, ap (λ l. l.servers) packed.2),
-      c.write-duals.auto.table ∙ c.loop-depth.invariant.1,
+      c.write_duals.auto.table ∙ c.loop-depth.invariant.1,
       length-set c.loop-depth.levels c.loop-depth.depth c.in-Some.level ∙ c.loop-depth.invariant.2,
       turn_more (g.F.Fitting.fits c.args.rule.now) c.args.unit (take c.args.tasks c.args.rates) c.loop-depth.depth c.loop-depth.levels
           c.loop-depth.count c.loop-depth.items c.loop-depth.invariant.3 c.in-Some.level packed.2
-          (λ roots. both_ways _ c.if-only-roots.false (c.only-roots.ensures.1 roots)) _ _ c.write-duals.ensures,
+          (λ roots. both_ways _ c.if-only_roots.false (c.only_roots.ensures.1 roots)) _ _ c.write_duals.ensures,
     )
 
 pub unreachable-requires-2 : goal.unreachable-requires-2

@@ -7,7 +7,7 @@ use Rattle.packing.proofs.build.write_duals.Goals as goal
 
 pub loop-i-preserved : goal.loop-i-preserved
 loop-i-preserved c =
-    ap (set c.loop-i.table c.loop-i.i) c.saturating-sub.ensures
+    ap (set c.loop-i.table c.loop-i.i) c.saturating_sub.ensures
     ∙ over_map_more (λ x. c.args.unit - x) c.args.rates.now c.args.table.now c.loop-i.table c.loop-i.i c.loop-i-test.true c.requires c.loop-i.invariant
 
 pub returns : goal.returns

@@ -7,7 +7,7 @@ use Rattle.packing.proofs.check.first_outside.Goals as goal
 
 pub loop-task-preserved : goal.loop-task-preserved
 loop-task-preserved c =
-    All-more (Within c.args.unit) c.args.rates.now c.loop-task.task 0 c.loop-task-test.true c.loop-task.invariant (c.if-not-is-within.ensures.0 refl)
+    All-more (Within c.args.unit) c.args.rates.now c.loop-task.task 0 c.loop-task-test.true c.loop-task.invariant (c.if-not-is_within.ensures.0 refl)
 
 pub returns : goal.returns
 returns c = subst (All (Within c.args.unit)) (take_all c.loop-task.task c.args.rates.now c.loop-task-test.false) c.loop-task.invariant

@@ -10,9 +10,9 @@ returns-in-Some c =
 pub returns-then-total-cores : goal.returns-then-total-cores
 returns-then-total-cores c =
     overload_first c.args.cores c.args.unit c.args.rates.now (omega arith, omega arith) (omega arith, omega arith) (omega arith, omega arith)
-    c.in-default.ensures (omega arith)
+    c.in_default.ensures (omega arith)
 
 pub returns : goal.returns
 returns c =
     allowed c.args.cores c.args.unit c.args.rates.now (omega arith, omega arith) (omega arith, omega arith) (omega arith, omega arith)
-    c.in-default.ensures (omega arith)
+    c.in_default.ensures (omega arith)

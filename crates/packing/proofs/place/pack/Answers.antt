@@ -4,16 +4,16 @@ use Rattle.packing.specs.Packing.{grown, packing_of}
 use Rattle.packing.specs.Steps.{Packed}
 use Rattle.packing.proofs.Fronts.{packed_skip, packed_more, packed_full, grown_open, grown_kept}
 use Rattle.packing.proofs.place.pack.Goals as goal
-use Rattle.packing.proofs.place.pack.Goals.{then-rate-eq0, else-rate-eq0+in-ok-home, then-home-count, else-home-count}
+use Rattle.packing.proofs.place.pack.Goals.{then-rate-eq0, else-rate-eq0+in_ok-home, then-home-count, else-home-count}
 
-pub returns-in-err-home : goal.returns-in-err-home
-returns-in-err-home g c =
-    let full = c.in-err-home.ensures in
-    simp c.from-residual.ensures
+pub returns-in_err-home : goal.returns-in_err-home
+returns-in_err-home g c =
+    let full = c.in_err-home.ensures in
+    simp c.from_residual.ensures
     (packed_full (g.F.Fitting.fits c.args.rule.now) c.args.unit _ _ _ _ _ _ _ c.loop-i-test.true (omega arith) c.loop-i.invariant (omega arith) full.0 full.1)
 
-pub overflow-cast-homes : goal.overflow-cast-homes
-overflow-cast-homes g c = let placed = c.in-ok-home.ensures in omega arith
+pub overflow_cast-homes : goal.overflow_cast-homes
+overflow_cast-homes g c = let placed = c.in_ok-home.ensures in omega arith
 
 pub loop-i-preserved : goal.loop-i-preserved
 loop-i-preserved g c =
@@ -21,8 +21,8 @@ loop-i-preserved g c =
       | then-rate-eq0 w ↦
           simp (w.homes-is, w.used-is, w.count-is)
           (packed_skip (g.F.Fitting.fits c.args.rule.now) c.args.unit _ _ _ _ _ _ _ c.loop-i-test.true (omega arith) c.loop-i.invariant w.if-rate-eq0.true)
-      | else-rate-eq0+in-ok-home w ↦
-          let placed = w.in-ok-home.ensures in
+      | else-rate-eq0+in_ok-home w ↦
+          let placed = w.in_ok-home.ensures in
           let n : ℕ = c.loop-i.count in
           let rate : ℕ = get_or c.args.items.now c.loop-i.i 0 in
           let used : List ℕ = take n c.loop-i.used in
@@ -30,8 +30,8 @@ loop-i-preserved g c =
           let len : length used ≡ n = length-take-le n c.loop-i.used (omega arith) in
           let count : w.if-home-count.count ≡ length (grown named used rate) =
           elim w.if-home-count.branch [
-            | then-home-count w' ↦ omega (arith, w'.count-is, grown_open named used rate w.in-ok-home.home placed.below (omega arith))
-            | else-home-count w' ↦ omega (arith, w'.count-is, grown_kept named used rate w.in-ok-home.home placed.home (omega arith))
+            | then-home-count w' ↦ omega (arith, w'.count-is, grown_open named used rate w.in_ok-home.home placed.below (omega arith))
+            | else-home-count w' ↦ omega (arith, w'.count-is, grown_kept named used rate w.in_ok-home.home placed.home (omega arith))
           ] in
           simp (w.homes-is, w.used-is, w.count-is)
           (packed_more (g.F.Fitting.fits c.args.rule.now) c.args.unit _ _ _ _ _ _ _ c.loop-i-test.true (omega arith) c.loop-i.invariant _ _ _ (omega arith) placed count)

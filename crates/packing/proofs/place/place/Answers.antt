@@ -2,8 +2,8 @@ use Rattle.std.proofs.Common.{arith}
 use Rattle.packing.proofs.Placing.{placed_named, placed_new, room_at, none_at}
 use Rattle.packing.proofs.place.place.Goals as goal
 
-pub overflow-add-used : goal.overflow-add-used
-overflow-add-used g c =
+pub overflow_add-used : goal.overflow_add-used
+overflow_add-used g c =
     let room = room_at _ (g.met.F.Fitting.lawful c.args.rule.now) _ _ _ _ _ c.requires c.in-Some.ensures in
     omega arith
 

@@ -7,12 +7,12 @@ use Rattle.packing.proofs.plan.way_up.Goals as goal
 pub loop-k-init : goal.loop-k-init
 loop-k-init c = (refl, climbed_none _ _)
 
-pub returns-in-default : goal.returns-in-default
-returns-in-default c =
+pub returns-in_default : goal.returns-in_default
+returns-in_default c =
     let long : length c.args.levels.now ≡ 5 = search rules in
     climbed_root (map packing_in (take c.args.depth c.args.levels.now)) c.args.task c.loop-k.k c.loop-k.path c.loop-k.item c.loop-k.invariant.1
     (omega (arith, long, length_levels c.args.depth c.args.levels.now))
-    None (c.in-default.ensures ∙ home_at c.args.depth c.args.levels.now c.loop-k.k c.loop-k.item (omega arith) (omega (arith, long))) refl
+    None (c.in_default.ensures ∙ home_at c.args.depth c.args.levels.now c.loop-k.k c.loop-k.item (omega arith) (omega (arith, long))) refl
 
 pub loop-k-preserved : goal.loop-k-preserved
 loop-k-preserved c =

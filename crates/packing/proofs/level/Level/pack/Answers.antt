@@ -7,7 +7,7 @@ use Rattle.packing.proofs.level.Level.pack.Goals as goal
 pub returns : goal.returns
 returns g c =
     let rule = g.F.Fitting.fits c.args.rule.now in
-    let packed = c.in-ok-servers.ensures in
+    let packed = c.in_ok-servers.ensures in
     let p = packing_of rule c.args.unit c.args.items.now in (
       omega arith,
       omega (arith, packed.servers, packed.room),

@@ -7,3 +7,4 @@ pub mod Tables
 pub mod Made
 pub mod Steps
 pub mod Preferred
+pub mod Openings

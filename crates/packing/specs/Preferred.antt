@@ -161,6 +161,9 @@ module _ (p : Preference) (used : List ℕ) (unit rate : ℕ) where
 pub preferred_lawful : (p : Preference) → Lawful (preferred p)
 preferred_lawful p used unit rate = names p used unit rate (λ _. Unit {0}) (λ j b. tt)
 
+pub first_fit_lawful : Lawful (preferred Earliest)
+first_fit_lawful = preferred_lawful Earliest
+
 pub first_fit : (used : List ℕ) (unit rate : ℕ) → IsFirstFit used unit rate (preferred Earliest used unit rate)
 first_fit used unit rate =
     names Earliest used unit rate _ (λ j b k room. ⊎_elim (λ before. absurd (b.first k before room)) (λ (after : j ≤ k). after) (cases_lt k j))

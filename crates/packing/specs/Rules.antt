@@ -46,3 +46,13 @@ best_from p used unit rate best i (x ∷ xs) = best_from p used unit rate (bette
 
 abbrev pub preferred : Preference → Rule
 preferred p used unit rate = best_from p used unit rate None 0 used
+
+-- The three rules by their names.
+abbrev pub first_fit : Rule
+first_fit = preferred Earliest
+
+abbrev pub best_fit : Rule
+best_fit = preferred Fullest
+
+abbrev pub worst_fit : Rule
+worst_fit = preferred Emptiest

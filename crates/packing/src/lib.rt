@@ -6,6 +6,7 @@ mod check;
 mod fitting;
 mod level;
 mod limits;
+mod opening;
 mod place;
 mod plan;
 mod refusal;
@@ -14,7 +15,8 @@ mod tasks;
 
 pub use fitting::Fitting;
 pub use level::Level;
-pub use limits::{CORES, LEVELS, SERVERS, SHEET_TASKS, TASKS, UNIT};
+pub use limits::{CORES, FRAMES, LEVELS, SERVERS, SHEET_TASKS, TASKS, UNIT};
+pub use opening::OpeningRefusal;
 pub use plan::Plan;
 pub use refusal::Refusal;
 

@@ -6,6 +6,9 @@ pub const CORES: u32 = 16;
 /// The most parts in one whole core.
 pub const UNIT: u32 = 1000;
 
+/// The most frames of a run.
+pub const FRAMES: u32 = 65535;
+
 /// The most tasks of a sheet.
 pub const SHEET_TASKS: usize = 64;
 

@@ -2,7 +2,7 @@
 use Rattle.std.proofs.Common.{◌≡◌, ℕ, zero, suc, ◌+◌, ◌-◌, ◌*◌, ◌<◌, ◌≤◌, ◌⊎◌, List, [], ◌∷◌, ◌++◌, length, get_or, drop, Option, sym, refl, ap, ◌∙◌, subst, inl, inr, arith}
 use Rattle.std.proofs.lemmas.List.{append_assoc, append-nil, length-append}
 use Rattle.std.proofs.lemmas.Bool.{cases_eq, cases_lt}
-use Rattle.packing.specs.declared.refusal.Refusal.TheVariants.{BadFrames}
+use Rattle.packing.specs.declared.opening.OpeningRefusal.TheVariants.{Load, BadFrames}
 use Rattle.packing.specs.Packing.{Packing}
 use Rattle.packing.specs.Plan.{all_tasks, OneSmallPlan}
 use Rattle.packing.specs.Steps.{Limits}
@@ -41,7 +41,7 @@ length_servers (l ∷ above) = ap suc (length_servers above)
 
 module _ (o : Opening) (g : Granted o) where
   load : Limits o.cores o.unit o.sheet
-  load = limits o.cores o.unit o.frames o.sheet g.allowed
+  load = limits o.cores o.unit o.sheet (λ f applies. g.allowed (Load f) applies)
 
   pub a_unit : 1 ≤ o.unit
   a_unit = load.a_unit
@@ -62,7 +62,7 @@ module _ (o : Opening) (g : Granted o) where
 pub every_allowed_load_opens : EveryAllowedLoadOpens
 every_allowed_load_opens cores unit frames sheet ok fit fits choose chooses =
     let small : OneSmallPlan fit unit cores (all_tasks cores unit sheet) =
-    one_small_plan fit fits unit cores (all_tasks cores unit sheet) (full_tasks cores unit sheet (limits cores unit frames sheet ok)) in (
+    one_small_plan fit fits unit cores (all_tasks cores unit sheet) (full_tasks cores unit sheet (limits cores unit sheet (λ f applies. ok (Load f) applies))) in (
       small.levels,
       record { allowed = ok; fits = fits; chooses = chooses; planned = small.is_plan },
       λ other g. small.only other g.planned,

@@ -3,9 +3,10 @@ use Rattle.std.proofs.Common.{◌≡◌, ℕ, suc, ◌*◌, ◌<◌, ◌≤◌, 
 use Rattle.std.proofs.ByRecursion.{All-get_or}
 use Rattle.std.proofs.lemmas.Bool.{true≢false}
 use Rattle.std.specs.List.{AllByRecursion as All}
-use Rattle.packing.specs.declared.refusal.Refusal.TheVariants.{BadCores, BadUnit, BadFrames, BadTaskCount, BadRate, Overload}
+use Rattle.packing.specs.declared.opening.OpeningRefusal.TheVariants.{Load, BadFrames}
+use Rattle.packing.specs.declared.refusal.Refusal.TheVariants.{BadCores, BadUnit, BadTaskCount, BadRate, Overload}
 use Rattle.packing.specs.Packing.{Within}
-use Rattle.packing.specs.Refusals.{Allowed}
+use Rattle.packing.specs.Openings.{OpeningAllowed}
 use Rattle.packing.specs.Preferred.{first_fit_lawful}
 use Rattle.choosing.specs.Lawfulness.{earliest_deadline_lawful}
 use Rattle.cores.specs.Naming.{member, Different}
@@ -18,17 +19,17 @@ use Rattle.ledger.specs.Theorems.{Fails, AWorkedHistory, WrongHistoriesDoNotConf
 -- ---- the openings
 
 allowed : (cores unit frames : ℕ) (sheet : List ℕ) → (1 ≤ cores) × (cores ≤ 16) → (1 ≤ unit) × (unit ≤ 1000) → (1 ≤ frames) × (frames ≤ 65535)
-    → (1 ≤ length sheet) × (length sheet ≤ 64) → All (Within unit) sheet → sum sheet ≤ cores * unit → Allowed cores unit frames sheet
-allowed cores unit frames sheet c u f t w s BadCores (inl h) = omega (arith, c.0)
-allowed cores unit frames sheet c u f t w s BadCores (inr h) = omega (arith, c.1)
-allowed cores unit frames sheet c u f t w s BadUnit (inl h) = omega (arith, u.0)
-allowed cores unit frames sheet c u f t w s BadUnit (inr h) = omega (arith, u.1)
+    → (1 ≤ length sheet) × (length sheet ≤ 64) → All (Within unit) sheet → sum sheet ≤ cores * unit → OpeningAllowed cores unit frames sheet
+allowed cores unit frames sheet c u f t w s (Load BadCores) (inl h) = omega (arith, c.0)
+allowed cores unit frames sheet c u f t w s (Load BadCores) (inr h) = omega (arith, c.1)
+allowed cores unit frames sheet c u f t w s (Load BadUnit) (inl h) = omega (arith, u.0)
+allowed cores unit frames sheet c u f t w s (Load BadUnit) (inr h) = omega (arith, u.1)
 allowed cores unit frames sheet c u f t w s BadFrames (inl h) = omega (arith, f.0)
 allowed cores unit frames sheet c u f t w s BadFrames (inr h) = omega (arith, f.1)
-allowed cores unit frames sheet c u f t w s BadTaskCount (inl h) = omega (arith, t.0)
-allowed cores unit frames sheet c u f t w s BadTaskCount (inr h) = omega (arith, t.1)
-allowed cores unit frames sheet c u f t w s (BadRate i) (h, out) = out (All-get_or (Within unit) sheet i 0 h w)
-allowed cores unit frames sheet c u f t w s Overload h = omega (arith, s)
+allowed cores unit frames sheet c u f t w s (Load BadTaskCount) (inl h) = omega (arith, t.0)
+allowed cores unit frames sheet c u f t w s (Load BadTaskCount) (inr h) = omega (arith, t.1)
+allowed cores unit frames sheet c u f t w s (Load (BadRate i)) (h, out) = out (All-get_or (Within unit) sheet i 0 h w)
+allowed cores unit frames sheet c u f t w s (Load Overload) h = omega (arith, s)
 
 two_is_not_three : ◌≡◌ {A = ℕ} 2 3 → ⊥
 two_is_not_three e = omega arith

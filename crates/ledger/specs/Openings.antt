@@ -3,7 +3,7 @@ use Rattle.std.specs.Prelude.{ℕ, ◌-◌, List, length, slice_index}
 use Rattle.packing.specs.Fitting.{Rule as Fitting, Lawful as LawfulFitting}
 use Rattle.packing.specs.Packing.{Packing}
 use Rattle.packing.specs.Plan.{spare, idle, all_tasks, IsPlan}
-use Rattle.packing.specs.Refusals.{Allowed}
+use Rattle.packing.specs.Openings.{OpeningAllowed}
 use Rattle.choosing.specs.Choosing.{Rule as Choosing, Lawful as LawfulChoosing}
 
 -- The arguments of an opening, its two rules as functions, and the plan.
@@ -44,7 +44,7 @@ reductions o = length o.plan - 1
 -- An opening is granted: no row of the table refuses its load, both rules keep what they owe, and the plan is the plan of
 -- all its tasks.
 pub record Granted (o : Opening) : Type 0 where
-  pub allowed : Allowed o.cores o.unit o.frames o.sheet
+  pub allowed : OpeningAllowed o.cores o.unit o.frames o.sheet
   pub fits : LawfulFitting o.fit
   pub chooses : LawfulChoosing o.choose
   pub planned : IsPlan o.fit o.unit (rates o) o.plan

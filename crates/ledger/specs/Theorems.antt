@@ -2,7 +2,7 @@
 use Rattle.std.specs.Prelude.{◌≡◌, ℕ, ◌*◌, ◌<◌, ◌≤◌, ◌⊎◌, List, [], length}
 use Rattle.packing.specs.Fitting.{Rule as Fitting, Lawful as LawfulFitting}
 use Rattle.packing.specs.Packing.{Packing}
-use Rattle.packing.specs.Refusals.{Allowed}
+use Rattle.packing.specs.Openings.{OpeningAllowed}
 use Rattle.choosing.specs.Choosing.{Rule as Choosing, Lawful as LawfulChoosing}
 use Rattle.cores.specs.Naming.{member}
 use Rattle.ledger.specs.Openings.{Opening, opening_of, Granted, idle_rates, rates, rate}
@@ -17,7 +17,7 @@ use Rattle.ledger.specs.Worked.{three_loops, one_loop, calls_of, worked, worked_
 -- Every load that no row refuses is granted with any two lawful rules, over one plan and no other.
 abbrev pub EveryAllowedLoadOpens : Type 0
 EveryAllowedLoadOpens =
-    (cores unit frames : ℕ) (sheet : List ℕ) → Allowed cores unit frames sheet → (fit : Fitting) → LawfulFitting fit → (choose : Choosing) → LawfulChoosing choose
+    (cores unit frames : ℕ) (sheet : List ℕ) → OpeningAllowed cores unit frames sheet → (fit : Fitting) → LawfulFitting fit → (choose : Choosing) → LawfulChoosing choose
     → (plan : List Packing) × Granted (opening_of cores unit frames sheet fit choose plan)
     × ((other : List Packing) → Granted (opening_of cores unit frames sheet fit choose other) → other ≡ plan)
 
@@ -83,7 +83,7 @@ EveryListOfCallsConforms = (o : Opening) → Granted o → (calls : List Call) �
 -- Of two rules: every load that the table allows opens with them, over some plan, and every history of its calls conforms.
 abbrev pub RunsConform : Fitting → Choosing → Type 0
 RunsConform fit choose =
-    (cores unit frames : ℕ) (sheet : List ℕ) → Allowed cores unit frames sheet
+    (cores unit frames : ℕ) (sheet : List ℕ) → OpeningAllowed cores unit frames sheet
     → (plan : List Packing) × Granted (opening_of cores unit frames sheet fit choose plan) × HistoriesConform (opening_of cores unit frames sheet fit choose plan)
 
 -- ---- histories worked out

@@ -6,12 +6,12 @@ use Rattle.std.proofs.ByRecursion.{All-get_or}
 use Rattle.std.proofs.lemmas.List.{get_or_append_left, get_or-map, length-append, length-map}
 use Rattle.std.proofs.lemmas.Bool.{cases_lt}
 use Rattle.packing.specs.declared.plan.Plan.{Plan}
-use Rattle.packing.specs.declared.refusal.Refusal.TheVariants.{BadFrames}
+use Rattle.packing.specs.declared.opening.OpeningRefusal.TheVariants.{Load, BadFrames}
 use Rattle.packing.specs.Fitting.{Rule}
 use Rattle.packing.specs.Made.{Planned}
 use Rattle.packing.specs.Packing.{Packing, Within}
 use Rattle.packing.specs.Plan.{all_tasks, idle, spare, Sized}
-use Rattle.packing.specs.Refusals.{Allowed}
+use Rattle.packing.specs.Openings.{OpeningAllowed}
 use Rattle.packing.specs.Steps.{Limits}
 use Rattle.packing.specs.Tables.{blank_level, level_table, levels_in, plan_table}
 use Rattle.packing.proofs.Idle.{full_tasks, limits}
@@ -64,7 +64,7 @@ module _ (unit : ℕ) (tasks : List ℕ) (levels : List Packing) where
 
 -- ---- a plan that was made
 
-module _ (rule : Rule) (cores unit frames : ℕ) (sheet : List ℕ) (p : Plan) (allowed : Allowed cores unit frames sheet) (planned : Planned rule cores unit sheet p) where
+module _ (rule : Rule) (cores unit frames : ℕ) (sheet : List ℕ) (p : Plan) (allowed : OpeningAllowed cores unit frames sheet) (planned : Planned rule cores unit sheet p) where
   abbrev tasks : List ℕ
   tasks = all_tasks cores unit sheet
 
@@ -82,7 +82,7 @@ module _ (rule : Rule) (cores unit frames : ℕ) (sheet : List ℕ) (p : Plan) (
 
   pub fits_tables : Fits p cores frames (length sheet)
   fits_tables =
-      let load : Limits cores unit sheet = limits cores unit frames sheet allowed in
+      let load : Limits cores unit sheet = limits cores unit sheet (λ f applies. allowed (Load f) applies) in
       let within : All (Within unit) tasks = (full_tasks cores unit sheet load).within in
       let levels : List Packing = planned.plan.levels in
       let few_levels : length levels ≤ 5 = omega (arith, planned.plan.few_reductions) in

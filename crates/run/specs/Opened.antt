@@ -2,10 +2,10 @@
 use Rattle.std.specs.Prelude.{◌≡◌, ℕ, suc, ◌+◌, ◌-◌, ◌<◌, ◌≤◌, List, [], ◌∷◌, length, take, drop, replicate, None, Ok, Err, Option, Result, slice_index, slice_index_or}
 use Rattle.packing.specs.declared.level.Level.{Level as PlanLevel}
 use Rattle.packing.specs.declared.plan.Plan.{Plan}
-use Rattle.packing.specs.declared.refusal.Refusal.{Refusal}
+use Rattle.packing.specs.declared.opening.OpeningRefusal.{OpeningRefusal}
 use Rattle.packing.specs.Fitting.{Rule}
 use Rattle.packing.specs.Plan.{all_tasks, idle, spare, OneSmallPlan}
-use Rattle.packing.specs.Refusals.{Allowed, First}
+use Rattle.packing.specs.Openings.{OpeningAllowed, FirstOfOpening}
 use Rattle.packing.specs.Tables.{over, levels_in, packing_in}
 use Rattle.cores.specs.Placing.{blank}
 use Rattle.levels.specs.declared.server.Server.{Server}
@@ -117,7 +117,7 @@ pub record Filled (p : Plan) (cores frames sheet : ℕ) (s : State) : Type 0 whe
 
 -- An allowed load, and the tables of its run over the plan of its tasks.
 pub record Opens (rule : Rule) (cores unit frames : ℕ) (sheet : List ℕ) (s : State) : Type 0 where
-  pub allowed : Allowed cores unit frames sheet
+  pub allowed : OpeningAllowed cores unit frames sheet
   pub plan : OneSmallPlan rule unit cores (all_tasks cores unit sheet)
   pub shows : view s ≡ begin_idle frames (length sheet) (idle unit (spare cores unit sheet)) (opening (all_tasks cores unit sheet) plan.levels)
   pub runs_on : machine s ≡ record { unit = unit; frames = frames; cores = cores }
@@ -133,8 +133,8 @@ pub record Opens (rule : Rule) (cores unit frames : ℕ) (sheet : List ℕ) (s :
   pub bounds : Bounds s
 
 -- The load is refused, by the row that counts, or its run is opened.
-abbrev pub Opened : Rule → ℕ → ℕ → ℕ → List ℕ → Result State Refusal → Type 0
-Opened rule cores unit frames sheet (Err e) = First cores unit frames sheet e
+abbrev pub Opened : Rule → ℕ → ℕ → ℕ → List ℕ → Result State OpeningRefusal → Type 0
+Opened rule cores unit frames sheet (Err e) = FirstOfOpening cores unit frames sheet e
 Opened rule cores unit frames sheet (Ok s) = Opens rule cores unit frames sheet s
 
 -- A run that was never opened: over, with no tasks, tick 0 and all counts 0.

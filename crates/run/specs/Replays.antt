@@ -1,8 +1,8 @@
 -- Calls and answers as values, and what a list of calls comes to. A reader of the contracts has to believe this file.
 use Rattle.std.specs.Prelude.{◌≡◌, ℕ, min, List, [], ◌∷◌, ◌++◌, length, take, drop, Ok, Err, Result}
-use Rattle.packing.specs.declared.refusal.Refusal.{Refusal as LoadRefusal}
+use Rattle.packing.specs.declared.opening.OpeningRefusal.{OpeningRefusal}
 use Rattle.packing.specs.Fitting.{Rule as Fitting}
-use Rattle.packing.specs.Refusals.{First}
+use Rattle.packing.specs.Openings.{FirstOfOpening}
 use Rattle.choosing.specs.Choosing.{Rule}
 use Rattle.ledger.specs.Calls as ledger
 use Rattle.ledger.specs.Calls.{History}
@@ -88,6 +88,6 @@ pub record Played (fit : Fitting) (choose : Rule) (cores unit frames : ℕ) (she
   pub behind : drop n new ≡ drop n old
 
 -- The load is refused, by the first row that holds, and the answers are as found; or the calls were put.
-abbrev pub Replayed : Fitting → Rule → ℕ → ℕ → ℕ → List ℕ → List Call → List Answer → List Answer → Result ℕ LoadRefusal → Type 0
-Replayed fit choose cores unit frames sheet calls old new (Err e) = First cores unit frames sheet e × (new ≡ old)
+abbrev pub Replayed : Fitting → Rule → ℕ → ℕ → ℕ → List ℕ → List Call → List Answer → List Answer → Result ℕ OpeningRefusal → Type 0
+Replayed fit choose cores unit frames sheet calls old new (Err e) = FirstOfOpening cores unit frames sheet e × (new ≡ old)
 Replayed fit choose cores unit frames sheet calls old new (Ok n) = Played fit choose cores unit frames sheet calls old new n

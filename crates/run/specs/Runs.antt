@@ -1,9 +1,9 @@
 -- The tables of a run, read as the run that the laws speak of, and what the calls answer and leave. A reader of the contracts has to believe this file.
 use Rattle.std.specs.Prelude.{◌≡◌, ℕ, ◌<◌, Bool, true, List, length, take, Some, None, Ok, Err, Option, Result}
-use Rattle.packing.specs.declared.refusal.Refusal.{Refusal as LoadRefusal}
+use Rattle.packing.specs.declared.opening.OpeningRefusal.{OpeningRefusal}
 use Rattle.packing.specs.Fitting.{Rule as Fitting}
 use Rattle.packing.specs.Plan.{all_tasks, OneSmallPlan}
-use Rattle.packing.specs.Refusals.{First}
+use Rattle.packing.specs.Openings.{FirstOfOpening}
 use Rattle.choosing.specs.Choosing.{Rule}
 use Rattle.cores.specs.Naming.{member, Names}
 use Rattle.cores.specs.Placing.{blank, limited, placed, written}
@@ -113,8 +113,8 @@ pub record OpenedRun (fit : Fitting) (choose : Rule) (cores unit frames : ℕ) (
   pub fresh : FreshRun (opening_of cores unit frames sheet fit choose plan.levels) (setting_of choose s') (run_of s')
 
 -- An opening is refused by the first row that holds, and the run is as found; or it is granted.
-abbrev pub OpenedAs : {Done : Type 0} → Fitting → Rule → ℕ → ℕ → ℕ → List ℕ → State → State → Result Done LoadRefusal → Type 0
-OpenedAs fit choose cores unit frames sheet s s' (Err e) = First cores unit frames sheet e × (s' ≡ s)
+abbrev pub OpenedAs : {Done : Type 0} → Fitting → Rule → ℕ → ℕ → ℕ → List ℕ → State → State → Result Done OpeningRefusal → Type 0
+OpenedAs fit choose cores unit frames sheet s s' (Err e) = FirstOfOpening cores unit frames sheet e × (s' ≡ s)
 OpenedAs fit choose cores unit frames sheet s s' (Ok _) = OpenedRun fit choose cores unit frames sheet s'
 
 -- A record never opened: a run that is over, with no tasks, tick 0 and all counts 0, and no task has run on a core.

@@ -10,7 +10,7 @@ use crate::task::{Event, Phase, Task};
 use choosing::Share;
 use cores::Cores;
 use levels::Server;
-use packing::{Fitting, Plan, Refusal};
+use packing::{Fitting, OpeningRefusal, Plan};
 
 /// The home that a level of the plan gives an item; there is none above the top.
 fn home_in(plan: &Plan, level: usize, item: usize) -> Option<u8>
@@ -151,10 +151,10 @@ pub(crate) fn open_tables<F: Fitting>(
     unit: u32,
     frames: u32,
     rates: &[u16],
-) -> Result<State, Refusal>
+) -> Result<State, OpeningRefusal>
     ensures { Opened (fits rule.now) cores unit frames rates.now result }
 {
     let mut plan = Plan::blank();
-    plan.make(rule, cores, unit, frames, rates)?;
+    plan.make_for_run(rule, cores, unit, frames, rates)?;
     Ok(filled(&plan, cores, frames, rates.len()))
 }

@@ -133,7 +133,7 @@ pub fn replay<F: Fitting, C: Choosing + Drop>(
     rates: &[u16],
     calls: &[Call],
     answers: &mut [Answer],
-) -> Result<usize, packing::Refusal>
+) -> Result<usize, packing::OpeningRefusal>
     ensures { Replayed (fits fitting.now) (chosen rule) cores unit frames rates.now calls.now answers.old answers.new result }
 {
     let mut run = Run::new(rule);

@@ -52,7 +52,7 @@ impl<C: Choosing> Run<C> {
         unit: u32,
         frames: u32,
         rates: &[u16],
-    ) -> Result<(), packing::Refusal>
+    ) -> Result<(), packing::OpeningRefusal>
         ensures rule { self.new.rule ≡ self.old.rule }
         ensures opened { OpenedAs (fits fitting.now) (chosen self.old.rule) cores unit frames rates.now self.old.state self.new.state result }
     {

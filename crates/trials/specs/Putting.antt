@@ -1,8 +1,8 @@
 -- What is answered to a call of the table, in the words of the contracts of a run. A reader of the contracts has to believe this file.
 use Rattle.std.specs.Prelude.{◌≡◌, ℕ, min, take, replicate, Some, Ok, Err, vec_items, Result}
-use Rattle.packing.specs.declared.refusal.Refusal.{Refusal as LoadRefusal}
+use Rattle.packing.specs.declared.opening.OpeningRefusal.{OpeningRefusal}
 use Rattle.packing.specs.Fitting.{Rule as Fitting}
-use Rattle.packing.specs.Refusals.{row as LoadRow}
+use Rattle.packing.specs.Openings.{opening_row}
 use Rattle.packing.specs.Rules.{first_fit, best_fit, worst_fit}
 use Rattle.choosing.specs.Choosing.{Rule}
 use Rattle.choosing.specs.Rules.{earliest_deadline, least_slack}
@@ -49,9 +49,9 @@ said (Number n) = number n
 said (Truth b) = truth b
 
 -- The answer to an opening.
-abbrev pub opening_answer : {Done : Type 0} → Result Done LoadRefusal → Answer
+abbrev pub opening_answer : {Done : Type 0} → Result Done OpeningRefusal → Answer
 opening_answer (Ok _) = Granted
-opening_answer (Err e) = Refused (LoadRow e).number (LoadRow e).task
+opening_answer (Err e) = Refused (opening_row e).number (opening_row e).task
 
 -- The answer to an announcement.
 abbrev pub announcing_answer : {Done : Type 0} → Result Done Refusal → Answer
@@ -61,7 +61,7 @@ announcing_answer (Err e) = Refused (row e).number (row e).task
 -- ---- what follows from a call: the run before it, the answer, the run after it
 
 abbrev pub OpenedSo : Rule → Fit → Load → State → Answer → State → Type 0
-OpenedSo choose fit load s answer s' = (told : Result (Unit {0}) LoadRefusal) × (answer ≡ opening_answer told)
+OpenedSo choose fit load s answer s' = (told : Result (Unit {0}) OpeningRefusal) × (answer ≡ opening_answer told)
     × OpenedAs (fitting fit) choose load.cores load.unit load.frames (vec_items load.rates) s s' told
 
 abbrev pub AnnouncedSo : Rule → ℕ → ℕ → State → Answer → State → Type 0

@@ -94,7 +94,7 @@ fn open<C: Choosing>(run: &mut Run<C>, fit: Fit, load: &Load) -> Answer
 }
 
 /// The answer of an opening.
-fn opened(told: Result<(), packing::Refusal>) -> Answer
+fn opened(told: Result<(), packing::OpeningRefusal>) -> Answer
     ensures { result ≡ opening_answer told }
 {
     match told {

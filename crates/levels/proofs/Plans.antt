@@ -18,7 +18,7 @@ use Rattle.levels.proofs.Never.{never_some, same_some}
 use Rattle.levels.proofs.States.{UnbegunItems}
 use Rattle.packing.specs.Packing.{Sound as SoundPacking, clients as client_rates_in}
 use Rattle.packing.specs.Plan.{SoundLevels as SoundPackings, duals as dual_rates}
-use Rattle.packing.specs.Fitting.{Rule as Fitting, Lawful as LawfulFitting}
+use Rattle.packing.specs.Fitting.{Rule as Fitting}
 
 -- ---- items and servers by place
 

@@ -11,7 +11,6 @@ use Rattle.levels.specs.Running.{Machine, State, task, item_with_job, announce, 
 use Rattle.levels.specs.Reaching.{Reached}
 use Rattle.levels.specs.Serving.{put, Served, opens, announces, ticks}
 use Rattle.levels.specs.Theorems.{EveryJobIsServed}
-use Rattle.levels.proofs.Members.{here}
 use Rattle.levels.proofs.Clients.{length_spent, item_spent}
 use Rattle.levels.proofs.States.{every_tick_is_full, no_deadline_is_missed}
 use Rattle.levels.specs.Reaching

@@ -1,5 +1,5 @@
 -- The theorems of runs, each carried by the function of its name. A reader of the contracts has to believe this file.
-use Rattle.std.specs.Prelude.{◌≡◌, ℕ, zero, suc, ◌+◌, ◌-◌, ◌*◌, ◌<◌, ◌≤◌, Bool, true, false, List, [], ◌∷◌, length, Some, None}
+use Rattle.std.specs.Prelude.{◌≡◌, ℕ, zero, suc, ◌+◌, ◌-◌, ◌*◌, ◌<◌, ◌≤◌, Bool, true, List, [], ◌∷◌, length, Some, None}
 use Rattle.packing.specs.Packing.{Packing, at_home}
 use Rattle.packing.specs.Plan.{IsPlan, FullCores}
 use Rattle.packing.specs.Fitting.{Rule as Fitting, Lawful as LawfulFitting}
@@ -9,7 +9,7 @@ use Rattle.choosing.specs.Rules.{earliest_deadline}
 use Rattle.levels.specs.declared.item.Item.{Item}
 use Rattle.levels.specs.declared.server.Server.{Server}
 use Rattle.levels.specs.Sums.{sum_to, bit, count}
-use Rattle.levels.specs.Items.{item_at, server_at, clients, duals, level_at, packed}
+use Rattle.levels.specs.Items.{item_at, server_at, clients, level_at, packed}
 use Rattle.levels.specs.Ticking.{Rules, AllLawful, next_level, server_runs, named, duals_named}
 use Rattle.levels.specs.Running.{Machine, State, task, ready, runs}
 use Rattle.levels.specs.Opening.{opening, IsOpening}

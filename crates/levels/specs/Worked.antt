@@ -1,5 +1,5 @@
 -- Three tasks of 2 ticks in frames of 3 on two cores, worked out. A reader of the contracts has to believe this file.
-use Rattle.std.specs.Prelude.{ℕ, zero, suc, Bool, cond, List, [], ◌∷◌, map, length, Some}
+use Rattle.std.specs.Prelude.{ℕ, zero, suc, List, [], ◌∷◌, map, length, Some}
 use Rattle.packing.specs.Packing.{Packing}
 use Rattle.choosing.specs.Choosing.{Rule}
 use Rattle.choosing.specs.Rules.{earliest_deadline}

@@ -43,7 +43,7 @@ pub fn every_list_of_calls_conforms()
 /// For any two types that keep the laws of their traits: every load that the table allows opens, and every history of its
 /// calls conforms.
 pub fn runs_conform<F: Fitting, C: Choosing>(fit: &F, choose: &C)
-    ensures { RunsConform (fits fit.now) (chosen choose.now) }
+    ensures { RunsConform (F.fits fit.now) (C.chosen choose.now) }
 {}
 
 /// The scheduler answers two lists of calls as written; every refusal and every question occurs in them.

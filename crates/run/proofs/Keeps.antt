@@ -1,10 +1,11 @@
 -- What a run carries, as one record. Assumes nothing.
+use Rattle.choosing.specs.declared.choosing.Choosing.{Ghosts}
 use Rattle.run.specs.declared.run.Run.{Run}
 use Rattle.run.specs.Bounds.{Bounds}
 use Rattle.run.specs.Keeping.{Kept}
 use Rattle.run.specs.declared.state.State.{State}
 
-pub kept_in : {Rule : Type 0} (r : Run Rule) → Kept r.state
+pub kept_in : {Rule : Type 0} {means : Ghosts Rule} (r : Run Rule means) → Kept r.state
 kept_in r = record {
   tables = r.tables;
   levels = r.levels;

@@ -73,49 +73,49 @@ impl State {
 impl<C: Choosing> Run<C> {
     /// The present tick.
     pub fn present_tick(&self) -> u32
-        ensures { Follows (chosen self.now.rule) self.now.state (ask present_tick) (number result) self.now.state }
+        ensures { Follows (C.chosen self.now.rule) self.now.state (ask present_tick) (number result) self.now.state }
     {
         self.state.time()
     }
 
     /// What is left of the present job of a task of the sheet.
     pub fn left(&self, task: usize) -> Result<u32, Refusal>
-        ensures { Follows (chosen self.now.rule) self.now.state (ask (left_of task)) (number_told result) self.now.state }
+        ensures { Follows (C.chosen self.now.rule) self.now.state (ask (left_of task)) (number_told result) self.now.state }
     {
         self.state.left_of(task)
     }
 
     /// The deadline frame of the present job of a task of the sheet.
     pub fn deadline(&self, task: usize) -> Result<u32, Refusal>
-        ensures { Follows (chosen self.now.rule) self.now.state (ask (deadline_of task)) (number_told result) self.now.state }
+        ensures { Follows (C.chosen self.now.rule) self.now.state (ask (deadline_of task)) (number_told result) self.now.state }
     {
         self.state.deadline_of(task)
     }
 
     /// Whether a task of the sheet is awaited.
     pub fn awaited(&self, task: usize) -> Result<bool, Refusal>
-        ensures { Follows (chosen self.now.rule) self.now.state (ask (is_awaited task)) (truth_told result) self.now.state }
+        ensures { Follows (C.chosen self.now.rule) self.now.state (ask (is_awaited task)) (truth_told result) self.now.state }
     {
         self.state.waits_for(task)
     }
 
     /// The reductions of the plan.
     pub fn reductions(&self) -> usize
-        ensures { Follows (chosen self.now.rule) self.now.state (ask reductions_made) (number result) self.now.state }
+        ensures { Follows (C.chosen self.now.rule) self.now.state (ask reductions_made) (number result) self.now.state }
     {
         self.state.levels_less_one()
     }
 
     /// The jobs begun: the announcements granted, and one for each idle task.
     pub fn jobs(&self) -> u64
-        ensures { Follows (chosen self.now.rule) self.now.state (ask jobs_begun) (number result) self.now.state }
+        ensures { Follows (C.chosen self.now.rule) self.now.state (ask jobs_begun) (number result) self.now.state }
     {
         self.state.jobs_begun()
     }
 
     /// The preemptions so far.
     pub fn preemptions(&self) -> u64
-        ensures { Follows (chosen self.now.rule) self.now.state (ask preemptions_made) (number result) self.now.state }
+        ensures { Follows (C.chosen self.now.rule) self.now.state (ask preemptions_made) (number result) self.now.state }
     {
         self.state.preemptions_made()
     }

@@ -152,7 +152,7 @@ pub(crate) fn open_tables<F: Fitting>(
     frames: u32,
     rates: &[u16],
 ) -> Result<State, OpeningRefusal>
-    ensures { Opened (fits rule.now) cores unit frames rates.now result }
+    ensures { Opened (F.fits rule.now) cores unit frames rates.now result }
 {
     let mut plan = Plan::blank();
     plan.make_for_run(rule, cores, unit, frames, rates)?;

@@ -31,7 +31,7 @@ fn place_of(places: &[u8; TASKS], count: usize, client: Option<usize>) -> Option
 /// Asks the rule about a server and its clients, the first of a table.
 fn ask<C: Choosing>(rule: &C, server: Share, shares: &[Share; TASKS], count: usize) -> Option<usize>
     requires { count ≤ 80 }
-    ensures { result ≡ chosen rule.now server (take count shares.now) }
+    ensures { result ≡ C.chosen rule.now server (take count shares.now) }
 {
     rule.choose(server, &shares[0..count])
 }
@@ -50,7 +50,7 @@ fn pick<C: Choosing>(
     requires within { level < state.now.depth }
     requires counted { server < (level_at state.now level).count }
     requires server { server < length (servers_at state.now level) }
-    ensures pick { result ≡ place_of (picks (λ _. chosen rule.now) (items_at state.now level) (servers_at state.now level) (flags dual_named.now) server) (places_from 0 (items_at state.now level) server) }
+    ensures pick { result ≡ place_of (picks (λ _. C.chosen rule.now) (items_at state.now level) (servers_at state.now level) (flags dual_named.now) server) (places_from 0 (items_at state.now level) server) }
     ensures placed { Placed result }
 {
     if dual_named[server] {
@@ -83,7 +83,7 @@ pub(crate) fn name_items<C: Choosing>(
 ) -> [bool; TASKS]
     requires bounds { Bounds state.now }
     requires within { level < state.now.depth }
-    ensures { (i : ℕ) → flags result i ≡ names_at (chosen rule.now) state.now level (flags dual_named.now) i }
+    ensures { (i : ℕ) → flags result i ≡ names_at (C.chosen rule.now) state.now level (flags dual_named.now) i }
 {
     let mut named = [false; TASKS];
     let count = state.levels[level].len();

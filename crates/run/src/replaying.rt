@@ -55,8 +55,8 @@ impl<C: Choosing> Run<C> {
     /// Puts a call to the run, and answers it.
     pub fn put(&mut self, call: Call) -> Answer
         ensures rule { self.new.rule ≡ self.old.rule }
-        ensures answered { Answered (chosen self.old.rule) self.old.state call result self.new.state }
-        ensures law { Lawfully (chosen self.old.rule) self.old.state (call_of call) (answer_of result) self.new.state }
+        ensures answered { Answered (C.chosen self.old.rule) self.old.state call result self.new.state }
+        ensures law { Lawfully (C.chosen self.old.rule) self.old.state (call_of call) (answer_of result) self.new.state }
     {
         match call {
             Call::Announce { task, deadline } => done_or_refused(self.announce(task, deadline)),
@@ -69,8 +69,8 @@ impl<C: Choosing> Run<C> {
     fn tick_list(&mut self, list: &mut [u8], entries: u8) -> Answer
         requires { length list.old ≡ entries }
         ensures rule { self.new.rule ≡ self.old.rule }
-        ensures answered { TickAnswered (chosen self.old.rule) self.old.state entries result self.new.state }
-        ensures law { Lawfully (chosen self.old.rule) self.old.state (tick entries) (answer_of result) self.new.state }
+        ensures answered { TickAnswered (C.chosen self.old.rule) self.old.state entries result self.new.state }
+        ensures law { Lawfully (C.chosen self.old.rule) self.old.state (tick entries) (answer_of result) self.new.state }
     {
         let cores = self.state.cores as usize;
         match self.tick(list) {
@@ -85,8 +85,8 @@ impl<C: Choosing> Run<C> {
     /// Ticks with a core list of so many entries.
     fn tick_entries(&mut self, entries: u8) -> Answer
         ensures rule { self.new.rule ≡ self.old.rule }
-        ensures answered { TickAnswered (chosen self.old.rule) self.old.state entries result self.new.state }
-        ensures law { Lawfully (chosen self.old.rule) self.old.state (tick entries) (answer_of result) self.new.state }
+        ensures answered { TickAnswered (C.chosen self.old.rule) self.old.state entries result self.new.state }
+        ensures law { Lawfully (C.chosen self.old.rule) self.old.state (tick entries) (answer_of result) self.new.state }
     {
         let mut list = [0; 255];
         self.tick_list(&mut list[0..entries as usize], entries)
@@ -94,7 +94,7 @@ impl<C: Choosing> Run<C> {
 
     /// Answers a question.
     fn asked(&self, question: Question) -> Answer
-        ensures { Follows (chosen self.now.rule) self.now.state (ask (question_of question)) (answer_of result) self.now.state }
+        ensures { Follows (C.chosen self.now.rule) self.now.state (ask (question_of question)) (answer_of result) self.now.state }
     {
         match question {
             Question::PresentTick => Answer::Number(u64::from(self.present_tick())),
@@ -111,8 +111,8 @@ impl<C: Choosing> Run<C> {
 /// Puts calls to a run, one after the other, as long as there is room for their answers. Answers how many were put.
 fn play<C: Choosing>(run: &mut Run<C>, calls: &[Call], answers: &mut [Answer]) -> usize
     ensures all { result ≡ min (length calls.now) (length answers.old) }
-    ensures answered { AllAnswered (chosen run.old.rule) run.old.state (take result calls.now) (take result answers.new) run.new.state }
-    ensures reaches { GoesOnBy (chosen run.old.rule) run.old.state (history_of (take result calls.now) (take result answers.new)) (chosen run.new.rule) run.new.state }
+    ensures answered { AllAnswered (C.chosen run.old.rule) run.old.state (take result calls.now) (take result answers.new) run.new.state }
+    ensures reaches { GoesOnBy (C.chosen run.old.rule) run.old.state (history_of (take result calls.now) (take result answers.new)) (C.chosen run.new.rule) run.new.state }
     ensures behind { drop result answers.new ≡ drop result answers.old }
 {
     let count = calls.len().min(answers.len());
@@ -134,7 +134,7 @@ pub fn replay<F: Fitting, C: Choosing + Drop>(
     calls: &[Call],
     answers: &mut [Answer],
 ) -> Result<usize, packing::OpeningRefusal>
-    ensures { Replayed (fits fitting.now) (chosen rule) cores unit frames rates.now calls.now answers.old answers.new result }
+    ensures { Replayed (F.fits fitting.now) (C.chosen rule) cores unit frames rates.now calls.now answers.old answers.new result }
 {
     let mut run = Run::new(rule);
     match run.open(fitting, cores, unit, frames, rates) {

@@ -35,7 +35,7 @@ impl<C: Choosing> Run<C> {
     /// A run that was never opened: it is over, has no tasks, and all its counts are 0.
     pub fn new(rule: C) -> Run<C>
         ensures rule { result.rule ≡ rule }
-        ensures blank { BlankRun (chosen rule) result.state }
+        ensures blank { BlankRun (C.chosen rule) result.state }
     {
         Run {
             rule,
@@ -54,7 +54,7 @@ impl<C: Choosing> Run<C> {
         rates: &[u16],
     ) -> Result<(), packing::OpeningRefusal>
         ensures rule { self.new.rule ≡ self.old.rule }
-        ensures opened { OpenedAs (fits fitting.now) (chosen self.old.rule) cores unit frames rates.now self.old.state self.new.state result }
+        ensures opened { OpenedAs (F.fits fitting.now) (C.chosen self.old.rule) cores unit frames rates.now self.old.state self.new.state result }
     {
         match open_tables(fitting, cores, unit, frames, rates) {
             Ok(state) => {
@@ -68,7 +68,7 @@ impl<C: Choosing> Run<C> {
     /// Announces the deadline frame of the next job of an awaited task. A refused call changes nothing.
     pub fn announce(&mut self, task: usize, deadline: u32) -> Result<(), Refusal>
         ensures rule { self.new.rule ≡ self.old.rule }
-        ensures follows { Follows (chosen self.old.rule) self.old.state (announce task deadline) (announced result) self.new.state }
+        ensures follows { Follows (C.chosen self.old.rule) self.old.state (announce task deadline) (announced result) self.new.state }
         ensures refused { AsFound result self.old.state self.new.state }
         ensures cores { self.new.state.placing ≡ self.old.state.placing }
     {
@@ -83,8 +83,8 @@ impl<C: Choosing> Run<C> {
     /// call changes nothing.
     pub fn tick(&mut self, list: &mut [u8]) -> Result<(), Refusal>
         ensures rule { self.new.rule ≡ self.old.rule }
-        ensures ticked { Ticked (chosen self.old.rule) self.old.state list.old self.new.state list.new result }
-        ensures law { CallConforms (setting_of (chosen self.old.rule) self.old.state) (run_of self.old.state) (tick (length list.old)) (ticked_as self.old.state.cores list.new result) (run_of self.new.state) }
+        ensures ticked { Ticked (C.chosen self.old.rule) self.old.state list.old self.new.state list.new result }
+        ensures law { CallConforms (setting_of (C.chosen self.old.rule) self.old.state) (run_of self.old.state) (tick (length list.old)) (ticked_as self.old.state.cores list.new result) (run_of self.new.state) }
     {
         if let Some(refusal) = tick_refusal(&self.state, list.len()) {
             return Err(refusal);

@@ -30,7 +30,7 @@ fn place_named(placing: &mut Cores, named: &TaskList, cores: u32, list: &mut [u8
 pub(crate) fn carry_out<C: Choosing>(rule: &C, state: &mut State, list: &mut [u8])
     requires kept { Kept state.old }
     requires granted { None ≡ refusal (figures_of state.old) (tick (length list.old)) }
-    ensures ticked { GrantedTick (chosen rule.now) state.old list.old state.new list.new }
+    ensures ticked { GrantedTick (C.chosen rule.now) state.old list.old state.new list.new }
     ensures kept { Kept state.new }
 {
     let named = go_on(rule, state);

@@ -49,7 +49,7 @@ fn run_level<C: Choosing>(
 ) -> [bool; TASKS]
     requires bounds { Bounds state.old }
     requires within { level < state.old.depth }
-    ensures named { (i : ℕ) → flags result i ≡ names_at (chosen rule.now) state.old level (flags dual_named.now) i }
+    ensures named { (i : ℕ) → flags result i ≡ names_at (C.chosen rule.now) state.old level (flags dual_named.now) i }
     ensures ran { Ran state.old state.new level dual_named.now }
 {
     let named = name_items(rule, state, level, dual_named, shares, places);
@@ -61,7 +61,7 @@ fn run_level<C: Choosing>(
 /// Runs every level from the top down, takes one tick from all that runs, and answers the tasks that are named.
 pub(crate) fn run_levels<C: Choosing>(rule: &C, state: &mut State) -> TaskList
     requires { Bounds state.old }
-    ensures ran { RanAll (chosen rule.now) state.old state.new (numbers_of result) }
+    ensures ran { RanAll (C.chosen rule.now) state.old state.new (numbers_of result) }
     ensures few { result.count ≤ state.old.count }
 {
     let mut shares = [NO_SHARE; TASKS];
@@ -93,7 +93,7 @@ pub(crate) fn make_ready(state: &mut State)
 pub(crate) fn go_on<C: Choosing>(rule: &C, state: &mut State) -> TaskList
     requires bounds { Bounds state.old }
     requires lasts { state.old.tick < state.old.unit * state.old.frames }
-    ensures gone { GoneOn (chosen rule.now) state.old state.new (numbers_of result) }
+    ensures gone { GoneOn (C.chosen rule.now) state.old state.new (numbers_of result) }
     ensures few { result.count ≤ state.old.count }
 {
     make_ready(state);

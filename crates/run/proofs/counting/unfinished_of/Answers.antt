@@ -6,7 +6,7 @@ use Rattle.run.proofs.counting.unfinished_of.Goals as goal
 
 pub loop-i-preserved : goal.loop-i-preserved
 loop-i-preserved c = (
-  kept_push (has_left c.args.tasks.now) c.args.named.now.tasks (numbers_of c.loop-i.list) (numbers_of c.push-unfinished.new.list) c.loop-i.i
-      (omega arith) c.loop-i.invariant.0 c.push-unfinished.ensures.numbers,
-  omega (arith, c.push-unfinished.ensures.few, c.loop-i.invariant.1),
+  kept_push (has_left c.args.tasks.now) c.args.named.now.tasks (numbers_of c.loop-i.list) (numbers_of c.push_unfinished.new.list) c.loop-i.i
+      (omega arith) c.loop-i.invariant.0 c.push_unfinished.ensures.numbers,
+  omega (arith, c.push_unfinished.ensures.few, c.loop-i.invariant.1),
 )

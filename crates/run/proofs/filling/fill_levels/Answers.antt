@@ -8,7 +8,7 @@ use Rattle.run.proofs.filling.fill_levels.Goals as goal
 
 pub loop-k-preserved : goal.loop-k-preserved
 loop-k-preserved c =
-    ap (set c.loop-k.levels c.loop-k.k) c.level-of.ensures
+    ap (set c.loop-k.levels c.loop-k.k) c.level_of.ensures
     ∙ levels_more c.args.plan.now c.args.levels.now c.loop-k.levels c.loop-k.k c.loop-k-test.true (omega arith) (omega arith) c.loop-k.invariant
 
 pub returns : goal.returns

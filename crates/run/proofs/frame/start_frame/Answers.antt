@@ -9,10 +9,10 @@ returns-then-state-eq0 c =
     let b = c.requires.bounds in
     record {
       kept = refl;
-      items = start_items s c.requires.unmarked c.start-tasks.new.tasks c.start-tasks.ensures.started;
-      phased = start_phased s c.requires.unmarked c.start-tasks.new.tasks c.start-tasks.ensures.started c.if-state.true
+      items = start_items s c.requires.unmarked c.start_tasks.new.tasks c.start_tasks.ensures.started;
+      phased = start_phased s c.requires.unmarked c.start_tasks.new.tasks c.start_tasks.ensures.started c.if-state.true
           (has_unit s.unit s.frames s.tick c.if-state.true) c.if-state-eq0.true;
-      bounds = (b.0, b.1, c.start-tasks.ensures.long, b.3, b.4, b.5, b.6, b.7, b.8, b.9, b.10);
+      bounds = (b.0, b.1, c.start_tasks.ensures.long, b.3, b.4, b.5, b.6, b.7, b.8, b.9, b.10);
     }
 
 pub returns-else-state : goal.returns-else-state

@@ -3,8 +3,8 @@ use Rattle.levels.specs.Items.{item_at}
 use Rattle.run.proofs.Levelled.{count_high, count_low, item_low, items_high}
 use Rattle.run.proofs.items.item_at.Goals as goal
 
-pub offset-bounds-state-i : goal.offset-bounds-state-i
-offset-bounds-state-i c = let low = count_low c.args.state.now c.requires.bounds c.args.level c.if-level-eq0.true in search rules
+pub offset_bounds-state-i : goal.offset_bounds-state-i
+offset_bounds-state-i c = let low = count_low c.args.state.now c.requires.bounds c.args.level c.if-level-eq0.true in search rules
 
 pub bounds-state-i : goal.bounds-state-i
 bounds-state-i c = let low = count_low c.args.state.now c.requires.bounds c.args.level c.if-level-eq0.true in search rules
@@ -13,10 +13,10 @@ pub returns-then-level-eq0 : goal.returns-then-level-eq0
 returns-then-level-eq0 c =
     let s = c.args.state.now in
     let low = count_low s c.requires.bounds c.args.level c.if-level-eq0.true in
-    c.item-of.ensures ∙ item_low s c.requires.bounds c.args.level c.args.i c.if-level-eq0.true (omega (arith, low, c.requires.packed))
+    c.item_of.ensures ∙ item_low s c.requires.bounds c.args.level c.args.i c.if-level-eq0.true (omega (arith, low, c.requires.packed))
 
-pub dual-of-requires : goal.dual-of-requires
-dual-of-requires c =
+pub dual_of-requires : goal.dual_of-requires
+dual_of-requires c =
     let s = c.args.state.now in
     let high = count_high s c.requires.bounds c.args.level (omega arith) c.requires.within in
     record {

@@ -18,10 +18,10 @@ returns g c =
     let rule = g.C.Choosing.chosen c.args.rule.now in
     let duals = flags c.args.dual_named.now in
     let share = ap (λ x. x.share) (get_or-take (level_at s k).count (level_at s k).servers j no_server c.requires.counted) in
-    let runs = picks_runs rule items (servers_at s k) duals j c.requires.server c.if-dual-named-server.false in
-    let clients = c.clients-of-n.ensures.clients in
+    let runs = picks_runs rule items (servers_at s k) duals j c.requires.server c.if-dual_named-server.false in
+    let clients = c.clients_of-n.ensures.clients in
     let chose = c.ask-client.ensures in
     let client : c.ask-client.result ≡ picks (λ _. rule) items (servers_at s k) duals j = search rules in
-    let pick : c.place-of.result ≡ place_of (picks (λ _. rule) items (servers_at s k) duals j) (places_from 0 items j) =
-    c.place-of.ensures ∙ ap (place_of c.ask-client.result) c.clients-of-n.ensures.places ∙ ap (λ o. place_of o (places_from 0 items j)) client in
+    let pick : c.place_of.result ≡ place_of (picks (λ _. rule) items (servers_at s k) duals j) (places_from 0 items j) =
+    c.place_of.ensures ∙ ap (place_of c.ask-client.result) c.clients_of-n.ensures.places ∙ ap (λ o. place_of o (places_from 0 items j)) client in
     record { pick = pick; placed = subst Placed (sym pick) (placed items j (picks (λ _. rule) items (servers_at s k) duals j) (items_few s c.requires.bounds k c.requires.within)) }

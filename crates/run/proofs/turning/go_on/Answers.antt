@@ -5,10 +5,10 @@ use Rattle.run.specs.Views.{numbers_of}
 use Rattle.run.proofs.Stepping.{each_ticked, end_same, kept_is, listed_runs, machine_is, runs_are, short_run, tick_same, view_is}
 use Rattle.run.proofs.turning.go_on.Goals as goal
 
-pub overflow-add-state : goal.overflow-add-state
-overflow-add-state g c =
+pub overflow_add-state : goal.overflow_add-state
+overflow_add-state g c =
     let e = c.args.state.now in
-    let same = tick_same (g.C.Choosing.chosen c.args.rule.now) e c.make-ready.new.state c.run-levels-named.new.state c.make-ready.ensures.kept c.make-ready.ensures.levels c.run-levels-named.ensures.ran.kept in
+    let same = tick_same (g.C.Choosing.chosen c.args.rule.now) e c.make_ready.new.state c.run_levels-named.new.state c.make_ready.ensures.kept c.make_ready.ensures.levels c.run_levels-named.ensures.ran.kept in
     let short = short_run e c.requires.bounds in
     search rules
 
@@ -16,12 +16,12 @@ pub returns : goal.returns
 returns g c =
     let rule = g.C.Choosing.chosen c.args.rule.now in
     let e = c.args.state.now in
-    let m = c.make-ready.new.state in
-    let x = c.run-levels-named.new.state in
-    let ready = c.make-ready.ensures in
-    let ran = c.run-levels-named.ensures.ran in
+    let m = c.make_ready.new.state in
+    let x = c.run_levels-named.new.state in
+    let ready = c.make_ready.ensures in
+    let ran = c.run_levels-named.ensures.ran in
     let b = ran.bounds in
-    let numbers = numbers_of c.run-levels-named.result in
+    let numbers = numbers_of c.run_levels-named.result in
     let tick = tick_same rule e m x ready.kept ready.levels ran.kept in
     let ends = end_same rule e m x ready.kept ready.levels ran.kept in
     let count = ap (λ s. s.count) ready.kept in
@@ -36,5 +36,5 @@ returns g c =
         kept = kept_is rule e m x ready.kept ready.levels ran.kept;
         bounds = (b.0, b.1, b.2, b.3, b.4, b.5, b.6, b.7, b.8, omega (arith, tick, ends, c.requires.lasts), b.10);
       };
-      few = omega (arith, count, c.run-levels-named.ensures.few);
+      few = omega (arith, count, c.run_levels-named.ensures.few);
     }

@@ -5,8 +5,8 @@ use Rattle.run.proofs.turning.renew_levels.Goals as goal
 pub loop-level-init : goal.loop-level-init
 loop-level-init c = rising_none c.args.state.now c.args.frame c.requires
 
-pub renew-level-requires : goal.renew-level-requires
-renew-level-requires c =
+pub renew_level-requires : goal.renew_level-requires
+renew_level-requires c =
     let same = ap (λ x. x.depth) c.loop-level.invariant.kept in
     record { bounds = c.loop-level.invariant.bounds; within = omega arith }
 
@@ -15,7 +15,7 @@ loop-level-preserved c =
     let s = c.loop-level.state in
     let bounds = c.loop-level.invariant.bounds in
     let same = ap (λ x. x.depth) c.loop-level.invariant.kept in
-    rising_more c.args.state.now c.args.frame s c.renew-level.new.state c.loop-level.level (omega arith) (omega (arith, bounds.3, bounds.4)) c.loop-level.invariant c.renew-level.ensures
+    rising_more c.args.state.now c.args.frame s c.renew_level.new.state c.loop-level.level (omega arith) (omega (arith, bounds.3, bounds.4)) c.loop-level.invariant c.renew_level.ensures
 
 pub returns : goal.returns
 returns c =

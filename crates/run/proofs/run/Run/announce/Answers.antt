@@ -8,11 +8,11 @@ use Rattle.run.proofs.Keeps.{kept_in, bounds_in}
 use Rattle.run.proofs.Steps.{refused_follows, granted_follows}
 use Rattle.run.proofs.run.Run.announce.Goals as goal
 
-pub begin-job-requires : goal.begin-job-requires
-begin-job-requires g c =
+pub begin_job-requires : goal.begin_job-requires
+begin_job-requires g c =
     let s = c.args.self.now.state in
     let kept = kept_in c.args.self.now in
-    let may = may_begin s c.args.task c.args.deadline kept (sym c.in-default.ensures) in
+    let may = may_begin s c.args.task c.args.deadline kept (sym c.in_default.ensures) in
     record {
       bounds = bounds_in s kept;
       known = omega (arith, may.known, kept.tables.1);
@@ -20,13 +20,13 @@ begin-job-requires g c =
       fits = jobs_fit s kept;
     }
 
-pub invariant-of-self : goal.invariant-of-self
-invariant-of-self g c =
+pub invariant_of-self : goal.invariant_of-self
+invariant_of-self g c =
     let s = c.args.self.now.state in
     let kept = kept_in c.args.self.now in
-    let may = may_begin s c.args.task c.args.deadline kept (sym c.in-default.ensures) in
+    let may = may_begin s c.args.task c.args.deadline kept (sym c.in_default.ensures) in
     let k : Kept c.begin_job.new.state = subst Kept (sym c.begin_job.ensures) (kept_begun s c.args.task c.args.deadline kept may) in
-    (k.tables, (k.levels, (k.numbers, (k.phased, (k.within, (k.jobs, (k.preemptions, (k.unfinished, (k.recorded, tt)))))))))
+    record { tables = k.tables; levels = k.levels; numbers = k.numbers; phased = k.phased; within = k.within; jobs = k.jobs; preemptions = k.preemptions; unfinished = k.unfinished; recorded = k.recorded }
 
 pub returns-in-Some : goal.returns-in-Some
 returns-in-Some g c = record {
@@ -41,10 +41,10 @@ returns g c =
     let choose = g.C.Choosing.chosen c.args.self.now.rule in
     let s = c.args.self.now.state in
     let kept = kept_in c.args.self.now in
-    let may = may_begin s c.args.task c.args.deadline kept (sym c.in-default.ensures) in
+    let may = may_begin s c.args.task c.args.deadline kept (sym c.in_default.ensures) in
     record {
       rule = refl;
-      follows = granted_follows choose s (announce c.args.task c.args.deadline) done c.begin_job.new.state c.in-default.ensures refl
+      follows = granted_follows choose s (announce c.args.task c.args.deadline) done c.begin_job.new.state c.in_default.ensures refl
           (ap run_of c.begin_job.ensures ∙ run_begun s c.args.task c.args.deadline kept may)
           (ap (setting_of choose) c.begin_job.ensures);
       refused = tt;

@@ -2,11 +2,11 @@ use Rattle.std.proofs.Common.{refl}
 use Rattle.run.proofs.Ledgered.{kept_unticked, opened_run}
 use Rattle.run.proofs.run.Run.open.Goals as goal
 
-pub invariant-of-self : goal.invariant-of-self
-invariant-of-self g c =
+pub invariant_of-self : goal.invariant_of-self
+invariant_of-self g c =
     let o = c.in-Ok.ensures in
     let k = kept_unticked c.in-Ok.state o.bounds o.phased o.within o.few_jobs o.unpreempted o.unplaced o.none_unfinished in
-    (k.tables, (k.levels, (k.numbers, (k.phased, (k.within, (k.jobs, (k.preemptions, (k.unfinished, (k.recorded, tt)))))))))
+    record { tables = k.tables; levels = k.levels; numbers = k.numbers; phased = k.phased; within = k.within; jobs = k.jobs; preemptions = k.preemptions; unfinished = k.unfinished; recorded = k.recorded }
 
 pub returns-in-Ok : goal.returns-in-Ok
 returns-in-Ok g c = record {

@@ -7,6 +7,6 @@ use Rattle.run.proofs.run.Run.put.Goals as goal
 pub returns-in-Tick : goal.returns-in-Tick
 returns-in-Tick g c =
     let choose = g.C.Choosing.chosen c.args.self.now.rule in
-    let P : Call → Type 0 = λ call. Lawfully choose c.args.self.now.state (call_of call) (answer_of c.tick-entries.result) c.tick-entries.new.self.state in
-    let Q : Call → Type 0 = λ call. Answered choose c.args.self.now.state call c.tick-entries.result c.tick-entries.new.self.state in
-    record { rule = c.tick-entries.ensures.rule; answered = subst Q (sym c.in-Tick.is) c.tick-entries.ensures.answered; law = subst P (sym c.in-Tick.is) c.tick-entries.ensures.law }
+    let P : Call → Type 0 = λ call. Lawfully choose c.args.self.now.state (call_of call) (answer_of c.tick_entries.result) c.tick_entries.new.self.state in
+    let Q : Call → Type 0 = λ call. Answered choose c.args.self.now.state call c.tick_entries.result c.tick_entries.new.self.state in
+    record { rule = c.tick_entries.ensures.rule; answered = subst Q (sym c.in-Tick.is) c.tick_entries.ensures.answered; law = subst P (sym c.in-Tick.is) c.tick_entries.ensures.law }

@@ -3,8 +3,8 @@ use Rattle.std.proofs.lemmas.List.{get_or-map}
 use Rattle.levels.specs.Items.{dual_of, no_item, no_server}
 use Rattle.run.proofs.state.Level.dual_of.Goals as goal
 
-pub offset-bounds-self-server : goal.offset-bounds-self-server
-offset-bounds-self-server c = let size = length-take c.args.self.now.count c.args.self.now.servers in search rules
+pub offset_bounds-self-server : goal.offset_bounds-self-server
+offset_bounds-self-server c = let size = length-take c.args.self.now.count c.args.self.now.servers in search rules
 
 pub returns : goal.returns
 returns c =

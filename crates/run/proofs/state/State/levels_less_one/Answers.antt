@@ -8,5 +8,5 @@ pub returns : goal.returns
 returns c =
     let s = c.args.self.now in
     let fits : s.depth ≤ length s.levels = omega (arith, c.requires.3, c.requires.4) in
-    let same : c.saturating-sub.result ≡ length (levels_of s) - 1 = omega (arith, c.saturating-sub.ensures, depth_read s fits) in
+    let same : c.saturating_sub.result ≡ length (levels_of s) - 1 = omega (arith, c.saturating_sub.ensures, depth_read s fits) in
     ap number same

@@ -19,7 +19,7 @@ fn spend(share: &mut Share)
 /// Gives one tick of a server to the client that the rule names, and answers that client. Where none is named, nothing
 /// changes.
 fn give_tick<C: Choosing>(rule: &C, server: &mut Share, clients: &mut [Share]) -> Option<usize>
-    ensures named { result ≡ chosen rule.now server.old clients.old }
+    ensures named { result ≡ C.chosen rule.now server.old clients.old }
     ensures server { server.new ≡ server_after result server.old }
     ensures clients { clients.new ≡ clients_after result clients.old }
     ensures balance { StaysBalanced result server.old clients.old server.new clients.new }

@@ -34,8 +34,3 @@ after_commas_append (x ∷ xs) n = ap (λ l. codes "," ++ (decimal x ++ l)) (aft
 
 pub after_commas_more : (xs : List ℕ) (i : ℕ) → i < length xs → after_commas (take i xs) ++ (codes "," ++ decimal (get_or xs i 0)) ≡ after_commas (take (i + 1) xs)
 after_commas_more xs i h = sym (ap after_commas (take_more xs i 0 h) ∙ after_commas_append (take i xs) (get_or xs i 0))
-
--- The first and the rest.
-pub with_commas_rest : (xs : List ℕ) → 0 < length xs → decimal (get_or xs 0 0) ++ after_commas (take (length xs - 1) (drop 1 xs)) ≡ with_commas xs
-with_commas_rest [] h = absurd (omega arith)
-with_commas_rest (x ∷ xs) h = ap (λ l. decimal x ++ after_commas l) (take_all (length (x ∷ xs) - 1) xs (omega arith))

@@ -27,7 +27,7 @@ pub(crate) enum Answer {
 
 /// Prints numbers, each after a comma.
 fn print_rest<W: fmt::Write>(f: &mut fmt::Formatter<W>, list: &[u8]) -> fmt::Result
-    ensures { WritesOnOk write_str_gives f.old result (after_commas list.now) f.new }
+    ensures { WritesOnOk W.write_str_gives f.old result (after_commas list.now) f.new }
 {
     for i in 0..list.len() {
         let entry = list[i];
@@ -38,7 +38,7 @@ fn print_rest<W: fmt::Write>(f: &mut fmt::Formatter<W>, list: &[u8]) -> fmt::Res
 
 /// Prints numbers with a comma between two.
 fn print_list<W: fmt::Write>(f: &mut fmt::Formatter<W>, list: &[u8]) -> fmt::Result
-    ensures { WritesOnOk write_str_gives f.old result (with_commas list.now) f.new }
+    ensures { WritesOnOk W.write_str_gives f.old result (with_commas list.now) f.new }
 {
     match list {
         [first, rest @ ..] => {

@@ -62,7 +62,7 @@ impl Runs {
 
 /// Puts a call to a run.
 fn put<C: Choosing>(run: &mut Run<C>, call: &Call) -> Answer
-    ensures { Put (chosen run.old.rule) call.now run.old.state result run.new.state }
+    ensures { Put (C.chosen run.old.rule) call.now run.old.state result run.new.state }
 {
     match call {
         Call::Open {
@@ -78,7 +78,7 @@ fn put<C: Choosing>(run: &mut Run<C>, call: &Call) -> Answer
 
 /// Opens a run.
 fn open<C: Choosing>(run: &mut Run<C>, fit: Fit, load: &Load) -> Answer
-    ensures { OpenedSo (chosen run.old.rule) fit load.now run.old.state result run.new.state }
+    ensures { OpenedSo (C.chosen run.old.rule) fit load.now run.old.state result run.new.state }
 {
     let Load {
         cores,
@@ -108,7 +108,7 @@ fn opened(told: Result<(), packing::OpeningRefusal>) -> Answer
 
 /// Announces a deadline.
 fn announce<C: Choosing>(run: &mut Run<C>, task: usize, deadline: u32) -> Answer
-    ensures { AnnouncedSo (chosen run.old.rule) task deadline run.old.state result run.new.state }
+    ensures { AnnouncedSo (C.chosen run.old.rule) task deadline run.old.state result run.new.state }
 {
     match run.announce(task, deadline) {
         Ok(()) => Answer::Granted,
@@ -118,7 +118,7 @@ fn announce<C: Choosing>(run: &mut Run<C>, task: usize, deadline: u32) -> Answer
 
 /// One tick, with a core list of so many entries.
 fn tick<C: Choosing>(run: &mut Run<C>, entries: usize) -> Answer
-    ensures { TickedSo (chosen run.old.rule) (min entries 20) run.old.state result run.new.state }
+    ensures { TickedSo (C.chosen run.old.rule) (min entries 20) run.old.state result run.new.state }
 {
     let mut list = [UNTOUCHED; LONGEST_LIST];
     let entries = entries.min(LONGEST_LIST);
@@ -130,7 +130,7 @@ fn tick<C: Choosing>(run: &mut Run<C>, entries: usize) -> Answer
 
 /// Asks a question.
 fn ask<C: Choosing>(run: &Run<C>, question: Question) -> Answer
-    ensures { Follows (chosen run.now.rule) run.now.state (asks (asked question)) (said result) run.now.state }
+    ensures { Follows (C.chosen run.now.rule) run.now.state (asks (asked question)) (said result) run.now.state }
 {
     match question {
         Question::Tick => Answer::Number(u64::from(run.present_tick())),

@@ -1,6 +1,6 @@
 //! Examples, worked out by hand.
 use crate::rules::*;
-use crate::{Fitting, Plan, Refusal};
+use crate::{Fitting, OpeningRefusal, Plan, Refusal};
 
 /// The number of the refusal of a load by first fit; 0 where it is planned.
 fn refused(cores: u32, unit: u32, rates: &[u16]) -> u8 {
@@ -90,4 +90,30 @@ fn a_refused_load_leaves_the_plan(rt: HostRuntime) {
     assert_eq!(rt; plan.tasks, 3);
     assert_eq!(rt; plan.path(2), [Some(2), Some(0), None, None, None]);
     assert_eq!(rt; plan.path(3), [None; 5]);
+}
+
+/// The number of the refusal of an opening by first fit; 0 where its plan is made.
+fn refused_opening(cores: u32, unit: u32, frames: u32, rates: &[u16]) -> u8 {
+    let mut plan = Plan::blank();
+    match plan.make_for_run(&FirstFit, cores, unit, frames, rates) {
+        Ok(()) => 0,
+        Err(refusal) => refusal.number(),
+    }
+}
+
+#[test]
+fn refusals_of_openings(rt: HostRuntime) {
+    assert_eq!(rt; refused_opening(0, 0, 0, &[]), 1);
+    assert_eq!(rt; refused_opening(17, 3, 1, &[1]), 1);
+    assert_eq!(rt; refused_opening(1, 1001, 0, &[]), 2);
+    assert_eq!(rt; refused_opening(1, 0, 1, &[1]), 2);
+    assert_eq!(rt; refused_opening(1, 3, 0, &[]), 3);
+    assert_eq!(rt; refused_opening(1, 3, 65536, &[1]), 3);
+    assert_eq!(rt; refused_opening(1, 3, 65535, &[]), 4);
+    assert_eq!(rt; refused_opening(16, 1000, 1, &[1; 65]), 4);
+    assert_eq!(rt; refused_opening(2, 3, 1, &[3, 0, 4]), 5);
+    assert_eq!(rt; refused_opening(2, 3, 1, &[3, 3, 1]), 6);
+    assert_eq!(rt; refused_opening(2, 3, 65535, &[3, 3]), 0);
+    assert_eq!(rt; OpeningRefusal::Load(Refusal::BadRate(1)).task(), Some(1));
+    assert_eq!(rt; OpeningRefusal::BadFrames.task(), None);
 }

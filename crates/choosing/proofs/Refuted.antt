@@ -1,10 +1,9 @@
 -- Why rules that do not look at deadlines are refused. Assumes nothing.
-use Rattle.std.proofs.Common.{ℕ, ◌≤◌, List, [], ◌∷◌, length, refl, inl, inr, arith}
+use Rattle.std.proofs.Common.{ℕ, ◌≤◌, List, [], ◌∷◌, refl, inl, inr, arith}
 use Rattle.std.proofs.lemmas.Bool.{cases_lt}
 use Rattle.choosing.specs.declared.share.Share.{Share}
 use Rattle.choosing.specs.Balance.{demand, supply, Balanced}
-use Rattle.choosing.specs.Choosing.{Lawful}
-use Rattle.choosing.specs.Careless.{always_first, always_none, fixed_priority, CarelessRulesAreUnlawful}
+use Rattle.choosing.specs.Careless.{CarelessRulesAreUnlawful}
 use Rattle.choosing.specs.Demands.{client_demand_from, client_demand_before}
 
 abbrev share : ℕ → ℕ → ℕ → Share

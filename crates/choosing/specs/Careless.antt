@@ -1,5 +1,5 @@
 -- Rules that are no choosing rules. A reader of the contracts has to believe this file.
-use Rattle.std.specs.Prelude.{ℕ, Bool, List, Some, None, Option}
+use Rattle.std.specs.Prelude.{Some, None}
 use Rattle.choosing.specs.Choosing.{Rule, Lawful}
 use Rattle.choosing.specs.Rules.{has_left, first_place}
 

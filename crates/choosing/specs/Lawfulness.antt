@@ -9,7 +9,7 @@ use Rattle.std.proofs.lemmas.List.MinMax.{IsStrictWeakOrder-by_number}
 use Rattle.choosing.specs.declared.share.Share.{Share}
 use Rattle.choosing.specs.Balance.{at, demand, supply, Loosely}
 use Rattle.choosing.specs.Choosing.{HasLeft, Names, Lawful}
-use Rattle.choosing.specs.Rules.{IsEarliestDeadline, IsLeastSlack, slack, first_place, unbeaten, first_unbeaten, sooner, tighter, earliest_deadline, least_slack}
+use Rattle.choosing.specs.Rules.{IsEarliestDeadline, IsLeastSlack, first_place, unbeaten, first_unbeaten, sooner, tighter, earliest_deadline, least_slack}
 use Rattle.choosing.specs.Balances.{spent_balanced, earliest_spare, least_spare}
 use Rattle.choosing.specs.Bests.{Leads, Best, first_is_best}
 use Rattle.choosing.specs.Slacks.{tighter_false, same_slack}

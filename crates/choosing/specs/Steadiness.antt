@@ -1,5 +1,5 @@
 -- Earliest deadline goes on with the client that it named. Assumes nothing.
-use Rattle.std.specs.Prelude.{◌≡◌, ℕ, ◌<◌, ◌≤◌, List, length, Some, nat_lt}
+use Rattle.std.specs.Prelude.{ℕ, ◌≤◌, List, length, Some, nat_lt}
 use Rattle.std.proofs.Common.{sym, ap₂, ◌∙◌, arith, length-set}
 use Rattle.std.proofs.lemmas.List.MinMax.{IsStrictWeakOrder-by_number}
 use Rattle.choosing.specs.declared.share.Share.{Share}

@@ -1,4 +1,4 @@
-use Rattle.std.proofs.Common.{◌≡◌, arith}
+use Rattle.std.proofs.Common.{arith}
 use Rattle.choosing.specs.declared.share.Share.{Share}
 use Rattle.choosing.specs.Rules.{slack}
 use Rattle.choosing.specs.Slacks.{Small, product_fits, total_fits, spare_fits, spare_kept}

@@ -1,6 +1,6 @@
 //! What a tick counts: the tasks that it preempts, and those that it leaves unfinished.
 ghost use Rattle.std.specs.Prelude.{◌≡◌, ℕ, ◌+◌, ◌^◌, ◌<◌, ◌≤◌, filter};
-ghost use Rattle.cores.specs.Counting.{preemptions as preemptions-of};
+ghost use Rattle.cores.specs.Counting.{preemptions as preemptions_of};
 ghost use Rattle.run.specs.Bounds.{Bounds};
 ghost use Rattle.run.specs.Changing.{remade};
 ghost use Rattle.run.specs.Counts.{has_left, Below, Pushed};
@@ -43,7 +43,7 @@ fn unfinished_of(tasks: &[Task; TASKS], named: &TaskList) -> TaskList
 /// How many of the tasks that the last tick left unfinished this one does not name.
 fn preempted_of(unfinished: &TaskList, named: &TaskList) -> usize
     requires { (unfinished.now.count ≤ 80) × (named.now.count ≤ 80) }
-    ensures count { result ≡ preemptions-of (numbers_of unfinished.now) (numbers_of named.now) }
+    ensures count { result ≡ preemptions_of (numbers_of unfinished.now) (numbers_of named.now) }
     ensures few { result ≤ 80 }
 {
     preempted(
@@ -59,7 +59,7 @@ pub(crate) fn count_tick(state: &mut State, named: &TaskList)
     requires few { named.now.count ≤ 80 }
     requires below { Below 80 named.now }
     requires fits { state.old.preemptions + 80 < 2 ^ 64 }
-    ensures kept { state.new ≡ remade state.old state.old.tick state.old.tasks state.old.levels state.old.jobs (state.old.preemptions + preemptions-of (numbers_of state.old.unfinished) (numbers_of named.now)) state.old.placing state.new.unfinished }
+    ensures kept { state.new ≡ remade state.old state.old.tick state.old.tasks state.old.levels state.old.jobs (state.old.preemptions + preemptions_of (numbers_of state.old.unfinished) (numbers_of named.now)) state.old.placing state.new.unfinished }
     ensures unfinished { numbers_of state.new.unfinished ≡ filter (has_left state.old.tasks) (numbers_of named.now) }
     ensures few { state.new.unfinished.count ≤ 80 }
 {

@@ -156,11 +156,11 @@ pub record Kept (o : Opening) (l : Ledger) : Type 0 where
 -- A history conforms: all the way through it the laws are kept, and each answer is one that the ledger gives.
 --
 -- Who would cheat is caught here: a tick, or an announcement, that is refused without need, by `Answers`; a tick that leaves
--- a core idle, gives a task two cores or more than its job's ticks, by `Full-tick`; a job that is held too little or
+-- a core idle, gives a task two cores or more than its job's ticks, by `FullTick`; a job that is held too little or
 -- outside its window, by `Served`; an announcement that is granted and not stored, a preemption that is not counted, a time
 -- that stands still, by the questions, which the ledger answers from its own books.
 -- Not caught here is a scheduler that keeps all this and never asks its rule. That the tasks of a tick are those that the
--- rules name, from the roots down, is said by `Names` (Scheduler), and `Conforming-is-not-enough` (Theorems) shows the
+-- rules name, from the roots down, is said by `Names` (Scheduler), and `ConformingIsNotEnough` (Theorems) shows the
 -- difference.
 abbrev pub Conforms : Opening → Ledger → History → Type 0
 Conforms o l [] = Kept o l

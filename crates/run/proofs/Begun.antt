@@ -1,15 +1,14 @@
 -- What a granted announcement leaves. Assumes nothing.
-use Rattle.std.proofs.Common.{◌≡◌, ℕ, zero, suc, ◌+◌, ◌-◌, ◌*◌, ◌/◌, ◌^◌, ◌<◌, ◌≤◌, Bool, true, false, cond, not, ◌&&◌, eqb, ltb, leb, ◌≢◌, List, [], ◌∷◌, map, length, get_or, take, set, Some, None, sum_by, sym, refl, ap, ◌∙◌, subst, inl, inr, mul-le-mul_right, mul_comm, div-lt_iff_lt-mul, mul-le-mul_left, arith, length-set, get_or-set_other, get_or-set_same}
+use Rattle.std.proofs.Common.{◌≡◌, ℕ, zero, suc, ◌+◌, ◌-◌, ◌*◌, ◌/◌, ◌^◌, ◌<◌, ◌≤◌, Bool, true, false, cond, not, eqb, ltb, leb, ◌≢◌, List, [], ◌∷◌, map, length, take, set, None, sum_by, sym, refl, ap, ◌∙◌, subst, inl, inr, mul-le-mul_right, mul_comm, div-lt_iff_lt-mul, mul-le-mul_left, arith, length-set, get_or-set_other, get_or-set_same}
 use Rattle.std.specs.List.{AllByRecursion as All}
 use Rattle.std.proofs.ByRecursion.{All-from_get_or, sum_by_le}
 use Rattle.std.proofs.lemmas.List.{get_or-take, length-take}
 use Rattle.std.proofs.lemmas.List.Sums.{sum_by-set}
 use Rattle.std.proofs.lemmas.Bool.{cases_eq, cases_lt, leb-false, ltb-false, eqb-true, ne_eqb, and_right, and_parts, not-false}
 use Rattle.levels.specs.Items.{item_at}
-use Rattle.levels.specs.Running.{announce as begin_job, item_with_job}
-use Rattle.levels.specs.declared.item.Item.{Item}
+use Rattle.levels.specs.Running.{item_with_job}
 use Rattle.ledger.specs.Calls.{announce}
-use Rattle.ledger.specs.Answering.{refusal, awaited, over, frame, announce_refusals}
+use Rattle.ledger.specs.Answering.{refusal, awaited, announce_refusals}
 use Rattle.ledger.specs.Scheduler.{begun}
 use Rattle.ledger.proofs.Tables.{none_holds}
 use Rattle.run.specs.declared.state.State.{State}

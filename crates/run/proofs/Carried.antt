@@ -1,5 +1,5 @@
 -- A granted tick, from the levels to the start of the next frame, is a tick of the scheduler. Assumes nothing.
-use Rattle.std.proofs.Common.{◌≡◌, ℕ, suc, ◌+◌, ◌*◌, ◌^◌, ◌<◌, ◌≤◌, min, Bool, true, false, cond, not, ◌&&◌, eqb, ltb, List, [], ◌∷◌, map, length, get_or, take, Some, None, sum_by, sum, filter, Option, sym, refl, ap, ◌∙◌, subst, ap₂, inl, inr, mul-le-mul, arith}
+use Rattle.std.proofs.Common.{◌≡◌, ℕ, suc, ◌+◌, ◌*◌, ◌^◌, ◌<◌, ◌≤◌, Bool, true, false, not, ◌&&◌, ltb, List, map, length, get_or, take, Some, None, sum_by, sum, filter, Option, sym, refl, ap, ◌∙◌, subst, ap₂, mul-le-mul, arith}
 use Rattle.std.specs.List.{AllByRecursion as All}
 use Rattle.std.proofs.ByRecursion.{all_kept_by, All-weaker}
 use Rattle.std.proofs.lemmas.List.{length-map, length-take, length-take-le}
@@ -10,11 +10,9 @@ use Rattle.cores.specs.declared.place.Cores.{Cores}
 use Rattle.cores.specs.Counting.{preemptions}
 use Rattle.cores.specs.Naming.{member, Different, Names}
 use Rattle.cores.specs.Placing.{is_task, limited, placed, written}
-use Rattle.cores.specs.Laws.{On, LastOn, Recorded, Lawful, Listed}
+use Rattle.cores.specs.Laws.{Recorded, Lawful, Listed}
 use Rattle.cores.proofs.Members.{all_member}
-use Rattle.levels.specs.Items.{item_at}
 use Rattle.levels.specs.Counting.{unfinished, preempted}
-use Rattle.levels.specs.Running as theory
 use Rattle.levels.specs.Running.{runs, step, task}
 use Rattle.levels.specs.Sums.{count}
 use Rattle.levels.specs.Ticking.{always}
@@ -23,7 +21,6 @@ use Rattle.ledger.specs.Calls.{tick}
 use Rattle.ledger.specs.Scheduler.{ticked}
 use Rattle.ledger.proofs.Tables.{none_holds}
 use Rattle.ledger.proofs.Tasks.{least_none, member_kept, different_kept, count_kept}
-use Rattle.run.specs.declared.state.Level.{Level}
 use Rattle.run.specs.declared.state.State.{State}
 use Rattle.run.specs.declared.state.TaskList.{TaskList}
 use Rattle.run.specs.declared.task.Event.TheVariants.{Tick}
@@ -31,13 +28,13 @@ use Rattle.run.specs.declared.task.Phase.{Phase}
 use Rattle.run.specs.declared.task.Phase.TheVariants.{Served, AtWork, Awaited}
 use Rattle.run.specs.declared.task.Task.{Task}
 use Rattle.run.specs.Bounds.{Bounds}
-use Rattle.run.specs.Changing.{remade, with_tasks}
+use Rattle.run.specs.Changing.{remade}
 use Rattle.run.specs.Counts.{has_left, Below}
-use Rattle.run.specs.Keeping.{Phased, Unmarked, SameItems, Kept}
-use Rattle.run.specs.Phases.{is_awaited, next, next_in}
+use Rattle.run.specs.Keeping.{Phased, Unmarked, Kept}
+use Rattle.run.specs.Phases.{is_awaited, next_in}
 use Rattle.run.specs.Runs.{setting_of, run_of, figures_of, named_by, GrantedTick}
 use Rattle.run.specs.Turns.{tick_if, GoneOn}
-use Rattle.run.specs.Views.{item_of, tasks_of, levels_of, numbers_of, view, machine, blank_task, task_at}
+use Rattle.run.specs.Views.{item_of, tasks_of, levels_of, numbers_of, view, machine, task_at}
 use Rattle.run.proofs.Begun.{not_marked}
 use Rattle.run.proofs.Distinct.{distinct_from, distinct_to, below_at, same_by}
 use Rattle.run.proofs.Reading.{item_is_task, awaited_read}

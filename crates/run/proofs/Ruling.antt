@@ -1,5 +1,5 @@
 -- A granted tick keeps the law of histories. Assumes nothing.
-use Rattle.std.proofs.Common.{◌≡◌, ℕ, ◌<◌, ◌≤◌, List, length, take, None, sym, refl, ap, ◌∙◌, subst, arith}
+use Rattle.std.proofs.Common.{◌≡◌, ℕ, ◌<◌, ◌≤◌, List, length, take, sym, refl, ap, ◌∙◌, subst, arith}
 use Rattle.std.specs.List.{AllByRecursion as All}
 use Rattle.std.proofs.ByRecursion.{All-weaker}
 use Rattle.std.proofs.lemmas.Bool.{ltb-false}
@@ -7,7 +7,7 @@ use Rattle.choosing.specs.Choosing.{Rule}
 use Rattle.cores.specs.Naming.{member, Names}
 use Rattle.cores.specs.Placing.{limited}
 use Rattle.cores.specs.Laws.{Fitting}
-use Rattle.ledger.specs.Answering.{refusal, tick_refusals, Unless, Grants}
+use Rattle.ledger.specs.Answering.{tick_refusals, Unless, Grants}
 use Rattle.ledger.specs.Calls.{tick, named}
 use Rattle.ledger.specs.Scheduler.{running, granted, unless}
 use Rattle.ledger.specs.Scheduler.{Names as NamesRun}

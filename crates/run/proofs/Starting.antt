@@ -1,6 +1,6 @@
 -- The start of a frame marks the tasks that are awaited. Assumes nothing.
-use Rattle.std.proofs.Common.{◌≡◌, ℕ, suc, ◌+◌, ◌*◌, ◌/◌, ◌%◌, ◌<◌, ◌≤◌, Bool, true, false, cond, not, ◌&&◌, eqb, leb, ◌⊎◌, List, get_or, sym, refl, ap, ◌∙◌, subst, ap₂, inl, inr, mul-le-mul_left, zero-mul, arith}
-use Rattle.std.proofs.lemmas.Bool.{cases_lt, cases_eq, cases_order, eq-eqb, ne_eqb, le-leb, lt-leb, and_right}
+use Rattle.std.proofs.Common.{◌≡◌, ℕ, suc, ◌*◌, ◌/◌, ◌%◌, ◌<◌, ◌≤◌, Bool, true, false, cond, not, ◌&&◌, eqb, leb, List, sym, refl, ap, ◌∙◌, inl, inr, mul-le-mul_left, zero-mul, arith}
+use Rattle.std.proofs.lemmas.Bool.{cases_lt, cases_order, eq-eqb, ne_eqb, le-leb, lt-leb, and_right}
 use Rattle.run.specs.declared.state.State.{State}
 use Rattle.run.specs.declared.task.Event.TheVariants.{FrameStart}
 use Rattle.run.specs.declared.task.Phase.{Phase}
@@ -8,8 +8,8 @@ use Rattle.run.specs.declared.task.Phase.TheVariants.{Served, AtWork, Awaited}
 use Rattle.run.specs.declared.task.Task.{Task}
 use Rattle.run.specs.Changing.{with_tasks}
 use Rattle.run.specs.Keeping.{due, Phased, Unmarked, Started, SameItems}
-use Rattle.run.specs.Phases.{is_awaited, next, next_in, started, with}
-use Rattle.run.specs.Views.{item_of, blank_task, task_at}
+use Rattle.run.specs.Phases.{is_awaited, next, next_in, with}
+use Rattle.run.specs.Views.{item_of, task_at}
 
 -- ---- one task
 

@@ -1,5 +1,5 @@
 -- The tasks that a tick leaves unfinished, and those that it preempts. Assumes nothing.
-use Rattle.std.proofs.Common.{◌≡◌, ℕ, zero, suc, ◌+◌, ◌<◌, ◌≤◌, Bool, true, false, cond, not, ◌&&◌, List, [], ◌∷◌, ◌++◌, length, get_or, take, filter, sym, refl, ap, ◌∙◌, arith}
+use Rattle.std.proofs.Common.{◌≡◌, ℕ, ◌+◌, ◌<◌, ◌≤◌, Bool, true, false, cond, not, List, [], ◌∷◌, ◌++◌, length, get_or, take, filter, sym, refl, ap, ◌∙◌, arith}
 use Rattle.cores.specs.Counting.{preemptions}
 use Rattle.cores.specs.Naming.{member}
 use Rattle.std.proofs.lemmas.List.Elements.{filter_more}

@@ -1,5 +1,5 @@
 -- The tables of a run, read as the lists that the theory of runs speaks of.
-use Rattle.std.specs.Prelude.{ℕ, Bool, false, List, map, take, None, Option, slice_index_or}
+use Rattle.std.specs.Prelude.{ℕ, Bool, false, List, map, take, None, slice_index_or}
 use Rattle.choosing.specs.Balance.{nothing}
 use Rattle.levels.specs.declared.item.Item.{Item}
 use Rattle.levels.specs.declared.server.Server.{Server}

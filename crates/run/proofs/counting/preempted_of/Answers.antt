@@ -1,7 +1,6 @@
-use Rattle.std.proofs.Common.{◌≡◌, ◌≤◌, length, arith, rules}
+use Rattle.std.proofs.Common.{◌≡◌, arith, rules}
 use Rattle.std.proofs.lemmas.List.{length-take}
 use Rattle.cores.specs.Counting.{preemptions}
-use Rattle.cores.specs.Naming.{member}
 use Rattle.run.specs.Views.{numbers_of}
 use Rattle.run.proofs.Unfinished.{preempted_few}
 use Rattle.run.proofs.counting.preempted_of.Goals as goal

@@ -1,4 +1,4 @@
-use Rattle.std.proofs.Common.{refl, arith}
+use Rattle.std.proofs.Common.{refl}
 use Rattle.run.proofs.Starting.{start_items, start_phased, midst_phased, over_phased, has_unit}
 use Rattle.run.proofs.frame.start_frame.Goals as goal
 use Rattle.run.proofs.frame.start_frame.Goals.{else-state-via-then-state+else-state-eq0, else-state-via-else-state}

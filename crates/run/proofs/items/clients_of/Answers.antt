@@ -16,15 +16,15 @@ loop-i-preserved c =
     elim c.if-has_home.branch [
       | then-has_home w ↦
           let at = sym c.has_home.ensures ∙ w.if-has_home.true in
-          let clients-more = clients_yes items i j x within c.item_at-item.ensures at in
-          let places-more = places_yes items i j x within c.item_at-item.ensures at in
-          let share-stored = take_more_set c.loop-i.shares c.loop-i.n x.share (omega arith) in
-          let place-stored = take_more_set c.loop-i.places c.loop-i.n i (omega arith) in
+          let clients_more = clients_yes items i j x within c.item_at-item.ensures at in
+          let places_more = places_yes items i j x within c.item_at-item.ensures at in
+          let share_stored = take_more_set c.loop-i.shares c.loop-i.n x.share (omega arith) in
+          let place_stored = take_more_set c.loop-i.places c.loop-i.n i (omega arith) in
           (omega arith, search rules, search rules, cc, cc)
       | else-has_home w ↦
           let at = sym c.has_home.ensures ∙ w.if-has_home.false in
-          let clients-more = clients_no items i j x within c.item_at-item.ensures at in
-          let places-more = places_no items i j x within c.item_at-item.ensures at in
+          let clients_more = clients_no items i j x within c.item_at-item.ensures at in
+          let places_more = places_no items i j x within c.item_at-item.ensures at in
           (omega arith, search rules, search rules, cc, cc)
     ]
 

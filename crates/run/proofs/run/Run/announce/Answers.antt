@@ -1,4 +1,4 @@
-use Rattle.std.proofs.Common.{◌≡◌, sym, refl, ap, ◌∙◌, subst, arith}
+use Rattle.std.proofs.Common.{sym, refl, ap, ◌∙◌, subst, arith}
 use Rattle.ledger.specs.Calls.{announce, done}
 use Rattle.run.specs.Keeping.{Kept}
 use Rattle.run.specs.Refusals.{told}

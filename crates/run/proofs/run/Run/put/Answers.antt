@@ -1,4 +1,4 @@
-use Rattle.std.proofs.Common.{sym, refl, subst}
+use Rattle.std.proofs.Common.{sym, subst}
 use Rattle.run.specs.declared.call.Call.{Call}
 use Rattle.run.specs.Replays.{answer_of, call_of, Answered}
 use Rattle.run.specs.Runs.{Lawfully}

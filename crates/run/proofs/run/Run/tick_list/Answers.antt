@@ -17,7 +17,7 @@ returns-in-Ok g c =
     let new = c.tick.new.list in
     let kept = kept_in c.args.self.now in
     let done = c.in-Ok.ensures in
-    let cores-fit : s.cores ≤ length old = wide choose s kept old new s' done.ticked in
+    let cores_fit : s.cores ≤ length old = wide choose s kept old new s' done.ticked in
     let same : take s.cores new ≡ take s.cores c.front.result =
     same_front s.cores new c.front.result (omega arith) (omega (arith, kept.numbers.0)) (λ k h. sym (c.front.ensures k (omega (arith, kept.numbers.0)) (omega arith))) in
     let P : List ℕ → Type 0 = λ l. CallConforms (setting_of choose s) (run_of s) (tick c.args.entries) (named l) (run_of s') in

@@ -1,10 +1,10 @@
 -- What is written, cut again: lines, fields and numbers come back. Assumes nothing.
-use Rattle.std.proofs.Common.{◌≡◌, ℕ, ◌+◌, ◌-◌, ◌^◌, ◌<◌, ◌≤◌, Bool, true, not, ◌||◌, eqb, leb, List, [], ◌∷◌, ◌++◌, length, get_or, Some, None, decimal, refl, ap, ◌∙◌, inl, inr, arith, rules}
+use Rattle.std.proofs.Common.{◌≡◌, ℕ, ◌^◌, ◌<◌, ◌≤◌, Bool, true, not, ◌||◌, eqb, leb, List, [], ◌∷◌, ◌++◌, length, get_or, Some, None, decimal, refl, ap, ◌∙◌, inl, inr, arith, rules}
 use Rattle.std.proofs.lemmas.Fmt.{digits_decimal, digits_value-decimal, length-decimal-le, decimal_nonempty, first_decimal, decimal_digit}
 use Rattle.std.proofs.lemmas.Str.Parse.{IsNumeralModel, numerals_by_fold}
 use Rattle.std.proofs.lemmas.Bool.{cond-true, cond-false, and_parts, and_from, or_left, or_right, eq-eqb, le-leb, lt-ltb, ne_eqb, not-true, not_from_false, cases_eq}
 use Rattle.std.proofs.lemmas.Bool.Decides.{nat_tests}
-use Rattle.std.specs.List.{AllByRecursion as All}
+use Rattle.std.specs.List.{AllByRecursion}
 use Rattle.sheet.specs.Forms.{digit, name_byte, all, value, value_on, written_well, is_number, is_period, number, period}
 use Rattle.sheet.specs.Parts.{onto, parts, lines}
 use Rattle.sheet.specs.Written.{ended}
@@ -34,7 +34,7 @@ cut_last s (b ∷ f) e =
     let both = and_parts (not (eqb b s)) (all (λ b. not (eqb b s)) f) e in
     cond-false (eqb b s) ([] ∷ parts s ([] ∷ []) f) (onto b (parts s ([] ∷ []) f)) (not-true (eqb b s) both.0) ∙ ap (onto b) (cut_last s f both.1)
 
-pub lines_back : (ls : List (List ℕ)) → All (Lacks 10) ls → lines (ended ls) ≡ ls
+pub lines_back : (ls : List (List ℕ)) → AllByRecursion (Lacks 10) ls → lines (ended ls) ≡ ls
 lines_back [] h = refl
 lines_back (l ∷ ls) h = cut_off 10 [] l (ended ls) h.0 ∙ ap (λ r. l ∷ r) (lines_back ls h.1)
 

@@ -1,5 +1,5 @@
 -- One line read: its fault counts, or it is clean and its values are those of its fields. Assumes nothing.
-use Rattle.std.proofs.Common.{◌≡◌, ℕ, zero, suc, ◌+◌, ◌-◌, ◌<◌, ◌≤◌, Bool, true, false, cond, eqb, ◌⊎◌, List, [], ◌∷◌, length, get_or, take, Some, None, Ok, Err, codes, Result, sym, refl, ap, ◌∙◌, ⊎_elim, arith}
+use Rattle.std.proofs.Common.{◌≡◌, ℕ, zero, suc, ◌+◌, ◌-◌, ◌<◌, ◌≤◌, Bool, true, false, cond, eqb, List, [], ◌∷◌, length, get_or, take, Some, None, Ok, Err, codes, Result, sym, refl, ap, ◌∙◌, ⊎_elim, arith}
 use Rattle.std.proofs.lemmas.Bool.{cond-false, and_parts, and_from, or_cases, or_parts, ne_eqb, eq-eqb, eqb-true, false≢true}
 use Rattle.sheet.specs.Faults.{extent, line_at, line_place, field_at, field_place, head_forms, task_forms, forms, passes, There, Formed, Shaped, TaskLine, Holds, First, entry_of}
 use Rattle.sheet.specs.Forms.{same, is_number, is_period, is_name, number, period, value}

@@ -3,7 +3,7 @@ use Rattle.std.proofs.Common.{◌≡◌, ℕ, suc, ◌+◌, ◌-◌, ◌*◌, �
 use lib.ListN.{length-map}
 use Rattle.std.proofs.lemmas.List.{drop-drop, drop_at, take_at, length_push, get_or-append-add, get_or_at, append-nil}
 use Rattle.std.proofs.lemmas.Bool.{cond-true, cond-false, and_parts, and_from, or_from, or_parts, eq-eqb, ne_eqb, le-leb, leb-true}
-use Rattle.std.specs.List.{AllByRecursion as All}
+use Rattle.std.specs.List.{AllByRecursion}
 use Rattle.sheet.specs.Forms.{same, all, name_byte, is_name, number, period}
 use Rattle.sheet.specs.Parts.{lines, fields}
 use Rattle.sheet.specs.Reading.{Seen, fault, and_then, at_field, head_line, head_at, task_line, name_of, used, new_task, tasks_from, all_lines, in_bounds, reading, answer, table_of, blank}
@@ -77,13 +77,13 @@ module _ (bs : List ℕ) where
       let here : drop (p + 4 + 1) bs ≡ (t.name ++ after) ++ rest = ap (λ n. drop n bs) (omega arith) ∙ sym (drop-drop 5 p bs) ∙ ap (drop 5) e in
       ap (take (length t.name)) (here ∙ append_assoc t.name after rest) ∙ take_at t.name (after ++ rest) (length t.name) refl
 
-  still_fresh : (es : List Entry) (e : Entry) (t : Task) → name_of bs e ≡ t.name → (us : List Task) → All (λ u. used bs es u.name ≡ false) us →
-      All (λ u. same t.name u.name ≡ false) us → All (λ u. used bs (es ++ e ∷ []) u.name ≡ false) us
+  still_fresh : (es : List Entry) (e : Entry) (t : Task) → name_of bs e ≡ t.name → (us : List Task) → AllByRecursion (λ u. used bs es u.name ≡ false) us →
+      AllByRecursion (λ u. same t.name u.name ≡ false) us → AllByRecursion (λ u. used bs (es ++ e ∷ []) u.name ≡ false) us
   still_fresh es e t n [] h k = tt
   still_fresh es e t n (u ∷ us) h k = (used_push bs es e u.name h.0 (ap (λ m. same m u.name) n ∙ k.0), still_fresh es e t n us h.1 k.1)
 
-  pub tasks_back : (es : List Entry) (ts : List Task) (line p : ℕ) → drop p bs ≡ ended (map task_text ts) → All Good ts → Apart ts →
-      All (λ u. used bs es u.name ≡ false) ts → length es + length ts ≤ 64 → 1 ≤ length es + length ts → tasks_from bs es line p (map task_text ts) ≡ Ok (es ++ entries p ts)
+  pub tasks_back : (es : List Entry) (ts : List Task) (line p : ℕ) → drop p bs ≡ ended (map task_text ts) → AllByRecursion Good ts → Apart ts →
+      AllByRecursion (λ u. used bs es u.name ≡ false) ts → length es + length ts ≤ 64 → 1 ≤ length es + length ts → tasks_from bs es line p (map task_text ts) ≡ Ok (es ++ entries p ts)
   tasks_back es [] line p e good apart fresh few some =
       cond-false (eqb (length es) 0) (Err (fault 5 (length bs) Tasks)) (Ok es) (ne_eqb (length es) 0 (λ z. omega arith)) ∙ ap Ok (sym (append-nil es))
   tasks_back es (t ∷ ts) line p e good apart fresh few some =
@@ -120,11 +120,11 @@ last_feed l (m ∷ ms) =
     let long = length-append l (10 ∷ ended (m ∷ ms)) in
     ap (λ n. get_or (l ++ 10 ∷ ended (m ∷ ms)) n 0) (omega arith) ∙ get_or-append-add l (10 ∷ ended (m ∷ ms)) (suc (length (ended (m ∷ ms)) - 1)) 0 ∙ last_feed m ms
 
-pub fresh_first : (bs : List ℕ) (ts : List Task) → All (λ u. used bs [] u.name ≡ false) ts
+pub fresh_first : (bs : List ℕ) (ts : List Task) → AllByRecursion (λ u. used bs [] u.name ≡ false) ts
 fresh_first bs [] = tt
 fresh_first bs (t ∷ ts) = (refl, fresh_first bs ts)
 
-pub lacking : (ts : List Task) → All Good ts → All (Lacks 10) (map task_text ts)
+pub lacking : (ts : List Task) → AllByRecursion Good ts → AllByRecursion (Lacks 10) (map task_text ts)
 lacking [] g = tt
 lacking (t ∷ ts) g = (
   all_join (λ b. not (eqb b 10)) t.name (44 ∷ (decimal t.rate ++ 44 ∷ decimal t.period)) (name_lacks_feed t.name (letters t g.0))
@@ -141,7 +141,7 @@ task_short t g =
     let two = length-append (decimal t.rate) (44 ∷ decimal t.period) in
     omega arith
 
-tasks_short : (ts : List Task) → All Good ts → length (ended (map task_text ts)) ≤ 30 * length ts
+tasks_short : (ts : List Task) → AllByRecursion Good ts → length (ended (map task_text ts)) ≤ 30 * length ts
 tasks_short [] g = omega arith
 tasks_short (t ∷ ts) g =
     let first = task_short t g.0 in

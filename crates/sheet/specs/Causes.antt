@@ -1,8 +1,10 @@
 -- What each cause of a fault says, and the fault of a refused opening. A reader of the contracts has to believe this file.
 use Rattle.std.specs.Prelude.{ℕ, ◌+◌, cond, None, nat_lt}
-use Rattle.packing.specs.Refusals.{Row, row}
-use Rattle.packing.specs.declared.refusal.Refusal.{Refusal}
-use Rattle.packing.specs.declared.refusal.Refusal.TheVariants.{BadCores, BadUnit, BadFrames, BadTaskCount, BadRate, Overload}
+use Rattle.packing.specs.Openings.{opening_row}
+use Rattle.packing.specs.Refusals.{Row}
+use Rattle.packing.specs.declared.opening.OpeningRefusal.{OpeningRefusal}
+use Rattle.packing.specs.declared.opening.OpeningRefusal.TheVariants.{Load, BadFrames}
+use Rattle.packing.specs.declared.refusal.Refusal.TheVariants.{BadCores, BadUnit, BadTaskCount, BadRate, Overload}
 use Rattle.sheet.specs.declared.fault.Cause.{Cause}
 use Rattle.sheet.specs.declared.fault.Cause.TheVariants.{Bounds, Mark, Shape, Field, Repeated, Tasks, Opening}
 use Rattle.sheet.specs.declared.fault.Fault.{Fault}
@@ -19,17 +21,17 @@ cause_row Shape = numbered 53
 cause_row Field = numbered 54
 cause_row Repeated = numbered 55
 cause_row Tasks = numbered 56
-cause_row (Opening r) = row r
+cause_row (Opening r) = opening_row r
 
 -- The line of the sheet that an opening was refused for; 0 where it is no single line. Task 0 stands in line 5.
-abbrev pub opening_line : Refusal → ℕ
-opening_line BadCores = 2
-opening_line BadUnit = 3
+abbrev pub opening_line : OpeningRefusal → ℕ
+opening_line (Load BadCores) = 2
+opening_line (Load BadUnit) = 3
 opening_line BadFrames = 4
-opening_line BadTaskCount = 0
-opening_line (BadRate task) = cond (nat_lt task 64) (task + 5) 0
-opening_line Overload = 0
+opening_line (Load BadTaskCount) = 0
+opening_line (Load (BadRate task)) = cond (nat_lt task 64) (task + 5) 0
+opening_line (Load Overload) = 0
 
 -- A sheet that reads, and whose opening is refused.
-abbrev pub opening_fault : Refusal → Fault
+abbrev pub opening_fault : OpeningRefusal → Fault
 opening_fault r = record { line = opening_line r; place = 0; cause = Opening r }

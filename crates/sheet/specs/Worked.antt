@@ -1,6 +1,7 @@
 -- Worked sheets: one that reads, and some for each cause, with number, line and place. Each follows by computing.
 use Rattle.std.specs.Prelude.{◌≡◌, ℕ, List, [], ◌∷◌, ◌++◌, Ok, Err, codes, Result}
-use Rattle.packing.specs.declared.refusal.Refusal.TheVariants.{BadCores, BadUnit, BadFrames, BadRate, Overload}
+use Rattle.packing.specs.declared.opening.OpeningRefusal.TheVariants.{Load, BadFrames}
+use Rattle.packing.specs.declared.refusal.Refusal.TheVariants.{BadCores, BadUnit, BadRate, Overload}
 use Rattle.sheet.specs.Causes.{cause_row, opening_fault}
 use Rattle.sheet.specs.Reading.{Content, reading}
 use Rattle.sheet.specs.Written.{ended}
@@ -40,8 +41,8 @@ pub record WorkedSheets : Type 0 where
   pub twice : told (head ++ codes "task,A,5,2" ∷ codes "task,A,1,1" ∷ codes "x" ∷ []) ≡ 55 ∷ 6 ∷ 47 ∷ []
   pub none : told head ≡ 56 ∷ 5 ∷ 31 ∷ []
   -- openings
-  pub cores : fault_numbers (opening_fault BadCores) ≡ 1 ∷ 2 ∷ 0 ∷ []
-  pub unit : fault_numbers (opening_fault BadUnit) ≡ 2 ∷ 3 ∷ 0 ∷ []
+  pub cores : fault_numbers (opening_fault (Load BadCores)) ≡ 1 ∷ 2 ∷ 0 ∷ []
+  pub unit : fault_numbers (opening_fault (Load BadUnit)) ≡ 2 ∷ 3 ∷ 0 ∷ []
   pub frames : fault_numbers (opening_fault BadFrames) ≡ 3 ∷ 4 ∷ 0 ∷ []
-  pub second_task : fault_numbers (opening_fault (BadRate 1)) ≡ 5 ∷ 6 ∷ 0 ∷ []
-  pub overload : fault_numbers (opening_fault Overload) ≡ 6 ∷ 0 ∷ 0 ∷ []
+  pub second_task : fault_numbers (opening_fault (Load (BadRate 1))) ≡ 5 ∷ 6 ∷ 0 ∷ []
+  pub overload : fault_numbers (opening_fault (Load Overload)) ≡ 6 ∷ 0 ∷ 0 ∷ []

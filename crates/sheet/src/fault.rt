@@ -2,7 +2,7 @@
 ghost use Rattle.std.specs.Prelude.{◌≡◌};
 ghost use Rattle.sheet.specs.Causes.{cause_row, opening_line, opening_fault};
 
-use packing::{Refusal, SHEET_TASKS};
+use packing::{OpeningRefusal, Refusal, SHEET_TASKS};
 use std::convert::From;
 
 /// Why a sheet is refused.
@@ -21,7 +21,7 @@ pub enum Cause {
     /// no task, or one too many
     Tasks,
     /// the sheet reads, but its opening is refused
-    Opening(Refusal),
+    Opening(OpeningRefusal),
 }
 
 /// Where a sheet is refused, and why. Lines count from 1 and bytes from 0; line 0 is no single line.
@@ -69,24 +69,26 @@ impl Fault {
 }
 
 /// The line of a sheet for which an opening is refused; 0 where it is no single line.
-fn opening_line(refusal: Refusal) -> usize
+fn opening_line(refusal: OpeningRefusal) -> usize
     ensures { result ≡ opening_line refusal }
 {
     match refusal {
-        Refusal::BadCores => 2,
-        Refusal::BadUnit => 3,
-        Refusal::BadFrames => 4,
-        Refusal::BadTaskCount => 0,
-        Refusal::BadRate(task) => { if task < SHEET_TASKS { task + 5 } else { 0 } }
-        Refusal::Overload => 0,
+        OpeningRefusal::Load(Refusal::BadCores) => 2,
+        OpeningRefusal::Load(Refusal::BadUnit) => 3,
+        OpeningRefusal::BadFrames => 4,
+        OpeningRefusal::Load(Refusal::BadTaskCount) => 0,
+        OpeningRefusal::Load(Refusal::BadRate(task)) => {
+            if task < SHEET_TASKS { task + 5 } else { 0 }
+        }
+        OpeningRefusal::Load(Refusal::Overload) => 0,
     }
 }
 
 /// The fault of a sheet that reads, and whose opening is refused; so `?` takes the refusal on.
-impl From<Refusal> for Fault {
+impl From<OpeningRefusal> for Fault {
     ghost from_gives = { λ e f. f ≡ opening_fault e };
 
-    fn from(refusal: Refusal) -> Fault {
+    fn from(refusal: OpeningRefusal) -> Fault {
         Fault {
             line: opening_line(refusal),
             place: 0,

@@ -1,6 +1,6 @@
 //! The forms of a field.
 ghost use Rattle.std.specs.Prelude.{◌≡◌, ◌+◌, if◌then◌else◌, Some, None, nat_le};
-ghost use Rattle.sheet.specs.Forms.{same as alike, value as value_of_lem, number as number_of_lem, period as period-of, is_name};
+ghost use Rattle.sheet.specs.Forms.{same as alike, value as value_of, number as number_of, period as period_of, is_name};
 ghost use Rattle.sheet.specs.Tokens.{text_of, Fits};
 
 use crate::limits::{DIGITS, HIGHEST, NAME};
@@ -23,7 +23,7 @@ pub(crate) fn same(a: &[u8], b: &[u8]) -> bool
 
 /// The number that digits write, unless it is above the highest.
 fn value(text: &[u8]) -> Option<u16>
-    ensures { result ≡ (if nat_le (value_of_lem text.now) 65535 then Some (value_of_lem text.now) else None) }
+    ensures { result ≡ (if nat_le (value_of text.now) 65535 then Some (value_of text.now) else None) }
 {
     let mut sum = 0u32;
     for i in 0..text.len() {
@@ -42,7 +42,7 @@ fn value(text: &[u8]) -> Option<u16>
 /// The number that a field writes, if it is of that form.
 pub(crate) fn number(field: Token) -> Option<u16>
     requires { Fits field }
-    ensures { result ≡ number_of_lem (text_of field.entry) }
+    ensures { result ≡ number_of (text_of field.entry) }
 {
     match field {
         Token::Number { text, place: _ } => {
@@ -62,7 +62,7 @@ pub(crate) fn number(field: Token) -> Option<u16>
 /// The period that a field writes: a number of 1 or more.
 pub(crate) fn period(field: Token) -> Option<u16>
     requires { Fits field }
-    ensures { result ≡ period-of (text_of field.entry) }
+    ensures { result ≡ period_of (text_of field.entry) }
 {
     match number(field) {
         Some(n) => { if n == 0 { None } else { Some(n) } }

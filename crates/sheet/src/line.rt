@@ -52,7 +52,7 @@ pub(crate) fn head_number(text: &[u8], word: &[u8], line: usize, start: usize) -
 /// The entry of a task whose last three fields these are.
 fn task_entry(name: Token, rate: Token, every: Token, line: usize) -> Result<Entry, Fault>
     requires fits { (Fits name) × ((Fits rate) × (Fits every)) }
-    requires rate_value { (place_of rate ≡ place_of name + length (text_of name) + 1) × (place_of every ≡ place_of rate + length (text_of rate) + 1) }
+    requires places { (place_of rate ≡ place_of name + length (text_of name) + 1) × (place_of every ≡ place_of rate + length (text_of rate) + 1) }
     ensures { result ≡ task_fields line (place_of name.entry) (text_of name.entry) (text_of rate.entry) (text_of every.entry) }
 {
     if !is_name_field(name) {

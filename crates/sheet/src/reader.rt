@@ -1,7 +1,7 @@
 //! Reads a sheet, line by line.
 ghost use Rattle.std.specs.Prelude.{◌≡◌, ◌+◌, ◌-◌, ◌≤◌, [], length, take, drop, replicate};
 ghost use Rattle.sheet.specs.Parts.{lines, fields};
-ghost use Rattle.sheet.specs.Reading.{after_mark, in_bounds, tasks_from, used as used-of, new_task, head_at, all_lines, reading, answer, blank as no-entry, table_of};
+ghost use Rattle.sheet.specs.Reading.{after_mark, in_bounds, tasks_from, used as used_of, new_task, head_at, all_lines, reading, answer, blank as no_entry, table_of};
 ghost use Rattle.sheet.specs.Faults.{Told};
 ghost use Rattle.sheet.specs.Steps.{seen, Filled, Whole};
 ghost use Rattle.sheet.specs.Written.{Returned};
@@ -23,7 +23,7 @@ struct Step {
 
 /// Whether one of the entries has this name.
 fn used(sheet: &[u8], entries: &[Entry], name: &[u8]) -> bool
-    ensures { result ≡ used-of sheet.now entries.now name.now }
+    ensures { result ≡ used_of sheet.now entries.now name.now }
 {
     for i in 0..entries.len() {
         if same(entries[i].name(sheet), name) {
@@ -76,7 +76,7 @@ fn head_step(sheet: &[u8], word: &[u8], line: usize, at: usize) -> Result<Step, 
 
 /// Fills a blank table with the tasks of the lines from `start` on, and says how many they are.
 fn read_tasks(sheet: &[u8], table: &mut [Entry; SHEET_TASKS], start: usize) -> Result<usize, Fault>
-    requires { table.old ≡ replicate 64 no-entry }
+    requires { table.old ≡ replicate 64 no_entry }
     ensures { Filled (tasks_from sheet.now [] 5 start (lines (drop start sheet.now))) table.new result }
 {
     let mut at = start;
@@ -108,7 +108,7 @@ fn read_tasks(sheet: &[u8], table: &mut [Entry; SHEET_TASKS], start: usize) -> R
 
 /// Reads the lines after the first, which begin at `at`, into a blank table.
 fn read_rest(sheet: &[u8], table: &mut [Entry; SHEET_TASKS], at: usize) -> Result<Head, Fault>
-    requires { table.old ≡ replicate 64 no-entry }
+    requires { table.old ≡ replicate 64 no_entry }
     ensures { Whole (after_mark sheet.now at (lines (drop at sheet.now))) table.new result }
 {
     let cores = head_step(sheet, b"cores", 2, at)?;
@@ -125,7 +125,7 @@ fn read_rest(sheet: &[u8], table: &mut [Entry; SHEET_TASKS], at: usize) -> Resul
 
 /// Reads all lines of a sheet that is not empty into a blank table.
 fn read_lines(sheet: &[u8], table: &mut [Entry; SHEET_TASKS]) -> Result<Head, Fault>
-    requires { (table.old ≡ replicate 64 no-entry) × (1 ≤ length sheet.now) }
+    requires { (table.old ≡ replicate 64 no_entry) × (1 ≤ length sheet.now) }
     ensures { Whole (all_lines sheet.now (lines sheet.now)) table.new result }
 {
     let end = line_end(sheet, 0);

@@ -1,6 +1,6 @@
 //! Examples, worked out by hand.
 use crate::{Cause, Entry, Fault, Head, LONGEST, Lexer, Token, rates, read};
-use packing::{Refusal, SHEET_TASKS};
+use packing::{OpeningRefusal, Refusal, SHEET_TASKS};
 use std::alloc::Global;
 use std::process::Abort;
 use std::test::Fail;
@@ -70,7 +70,7 @@ fn a_sheet_reads(rt: HostRuntime) {
     };
     assert_eq!(rt; read(SHEET, &mut table).ok(), Some(head));
     assert_eq!(rt; table[1], second);
-    assert_eq!(rt; table[1].name(SHEET), b"B7");
+    assert_eq!(rt; table[1].name(SHEET), b"B7".as_slice());
     assert_eq!(rt; table[2], Entry::BLANK);
     assert_eq!(rt; rates(&table)[0], 5);
 }
@@ -182,7 +182,7 @@ fn tokens(rt: HostRuntime) -> Result<(), Fail> {
     let Some(third) = lexer.next_token() else {
         return Err(Fail::new("no third token"));
     };
-    assert_eq!(rt; third.text(), b"007");
+    assert_eq!(rt; third.text(), b"007".as_slice());
     assert_eq!(rt; third.place(), 8);
     assert!(rt;
         matches!(
@@ -196,13 +196,34 @@ fn tokens(rt: HostRuntime) -> Result<(), Fail> {
 
 #[test]
 fn refused_openings(rt: HostRuntime) {
-    assert_eq!(rt; numbers(Fault::from(Refusal::BadCores)), [1, 2, 0]);
-    assert_eq!(rt; numbers(Fault::from(Refusal::BadUnit)), [2, 3, 0]);
-    assert_eq!(rt; numbers(Fault::from(Refusal::BadFrames)), [3, 4, 0]);
-    assert_eq!(rt; numbers(Fault::from(Refusal::BadTaskCount)), [4, 0, 0]);
-    assert_eq!(rt; numbers(Fault::from(Refusal::BadRate(63))), [5, 68, 0]);
-    assert_eq!(rt; numbers(Fault::from(Refusal::BadRate(64))), [5, 0, 0]);
-    assert_eq!(rt; numbers(Fault::from(Refusal::Overload)), [6, 0, 0]);
-    assert_eq!(rt; Cause::Opening(Refusal::BadRate(7)).task(), Some(7));
+    assert_eq!(rt;
+        numbers(Fault::from(OpeningRefusal::Load(Refusal::BadCores))),
+        [1, 2, 0]
+    );
+    assert_eq!(rt;
+        numbers(Fault::from(OpeningRefusal::Load(Refusal::BadUnit))),
+        [2, 3, 0]
+    );
+    assert_eq!(rt; numbers(Fault::from(OpeningRefusal::BadFrames)), [3, 4, 0]);
+    assert_eq!(rt;
+        numbers(Fault::from(OpeningRefusal::Load(Refusal::BadTaskCount))),
+        [4, 0, 0]
+    );
+    assert_eq!(rt;
+        numbers(Fault::from(OpeningRefusal::Load(Refusal::BadRate(63)))),
+        [5, 68, 0]
+    );
+    assert_eq!(rt;
+        numbers(Fault::from(OpeningRefusal::Load(Refusal::BadRate(64)))),
+        [5, 0, 0]
+    );
+    assert_eq!(rt;
+        numbers(Fault::from(OpeningRefusal::Load(Refusal::Overload))),
+        [6, 0, 0]
+    );
+    assert_eq!(rt;
+        Cause::Opening(OpeningRefusal::Load(Refusal::BadRate(7))).task(),
+        Some(7)
+    );
     assert_eq!(rt; Cause::Field.task(), None);
 }

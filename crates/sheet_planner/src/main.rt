@@ -19,7 +19,7 @@ fn plan_sheet(
 ) -> Result<Head, Fault> {
     let head = read(bytes, table)?;
     let rates = rates(table);
-    plan.make(
+    plan.make_for_run(
         &FirstFit,
         u32::from(head.cores),
         u32::from(head.unit),

@@ -25,7 +25,7 @@ fn filled(table: &[Entry]) -> usize {
 /// The reductions of the plan of a sheet that was read.
 fn reductions(head: Head, rates: &[u16]) -> Result<usize, Fault> {
     let mut plan = Plan::blank();
-    plan.make(
+    plan.make_for_run(
         &FirstFit,
         u32::from(head.cores),
         u32::from(head.unit),

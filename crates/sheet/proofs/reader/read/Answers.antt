@@ -13,8 +13,8 @@ returns-then-not-fits c =
 pub returns-in-Ok : goal.returns-in-Ok
 returns-in-Ok c =
     let whole = c.in-Ok.ensures in
-    let both = read_whole c.args.sheet.now c.read-lines.new.table c.in-Ok.head (sym c.fits.ensures ∙ c.if-not-fits.false)
-    whole.0 whole.1 whole.2 c.read-lines.array_long in
+    let both = read_whole c.args.sheet.now c.read_lines.new.table c.in-Ok.head (sym c.fits.ensures ∙ c.if-not-fits.false)
+    whole.0 whole.1 whole.2 c.read_lines.array_long in
     record { told = told _ _ _ both.0 both.1; returned = returned_as _ _ _ both.0 both.1; answer = both.0; table = both.1 }
 
 pub returns-in-Err : goal.returns-in-Err

@@ -1,6 +1,6 @@
 -- Demand and supply of a server and its clients, and what it means that they balance. A reader of the contracts has to believe this file.
 use Rattle.std.specs.Prelude.{◌≡◌, ℕ, ◌+◌, ◌-◌, ◌*◌, ◌<◌, ◌≤◌, max, cond, List, [], ◌∷◌, length, nat_le, slice_index_or, slice_set}
-use Rattle.std.specs.List.{AllByRecursion as All}
+use Rattle.std.specs.List.{AllByRecursion}
 use Rattle.choosing.specs.declared.share.Share.{Share}
 
 -- The share at place k of a list; past its end stands a share of nothing.
@@ -36,7 +36,7 @@ latest (c ∷ cs) = max c.deadline (latest cs)
 
 -- No client has a deadline before frame d; some client has its deadline at frame d.
 abbrev pub NoneBefore : ℕ → List Share → Type 0
-NoneBefore d cs = All (λ c. d ≤ c.deadline) cs
+NoneBefore d cs = AllByRecursion (λ c. d ≤ c.deadline) cs
 
 abbrev pub SomeAt : ℕ → List Share → Type 0
 SomeAt d cs = (k : ℕ) × (k < length cs) × ((at cs k).deadline ≡ d)

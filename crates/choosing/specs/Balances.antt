@@ -1,7 +1,7 @@
 -- When a tick taken from a server and from one of its clients keeps the balance. Assumes nothing.
 use Rattle.std.specs.Prelude.{◌≡◌, ℕ, zero, suc, ◌+◌, ◌*◌, ◌<◌, ◌≤◌, max, List, [], ◌∷◌, length, refl}
 use Rattle.std.proofs.Common.{sym, ap, ◌∙◌, inl, inr, mul-le-mul_left, arith, length-set}
-use Rattle.std.specs.List.{AllByRecursion as All}
+use Rattle.std.specs.List.{AllByRecursion}
 use Rattle.std.proofs.ByRecursion.{All-from_get_or, All-get_or, All-set}
 use Rattle.std.proofs.lemmas.Bool.{cases_lt}
 use Rattle.choosing.specs.declared.share.Share.{Share}
@@ -79,7 +79,7 @@ module _ (s : Share) (cs : List Share) (j : ℕ) (run : 1 ≤ s.left) (has : Has
 -- ---- the two rules leave more than is needed before the deadline of the client that they name
 
 -- The clients due by frame D have nothing left, where none of them can have left.
-idle_by : (cs : List Share) (D : ℕ) → ((k : ℕ) → HasLeft cs k → (at cs k).deadline ≤ D → ⊥) → All (λ c. c.deadline ≤ D → c.left ≡ 0) cs
+idle_by : (cs : List Share) (D : ℕ) → ((k : ℕ) → HasLeft cs k → (at cs k).deadline ≤ D → ⊥) → AllByRecursion (λ c. c.deadline ≤ D → c.left ≡ 0) cs
 idle_by cs D never = All-from_get_or (λ c. c.deadline ≤ D → c.left ≡ 0) cs nothing
     (λ k h by. elim (cases_lt (at cs k).left 1) [ inl none ↦ omega arith | inr has ↦ absurd (never k (h, has) by) ])
 

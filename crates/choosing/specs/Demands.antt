@@ -1,7 +1,7 @@
 -- What the clients of a server need, and what the server brings. Assumes nothing.
 use Rattle.std.specs.Prelude.{◌≡◌, ℕ, ◌+◌, ◌-◌, ◌*◌, ◌<◌, ◌≤◌, max, List, [], ◌∷◌, nat_le}
 use Rattle.std.proofs.Common.{sym, ap, ◌∙◌, inl, inr, mul-add, add-mul, mul-le-mul_left, arith}
-use Rattle.std.specs.List.{AllByRecursion as All}
+use Rattle.std.specs.List.{AllByRecursion}
 use Rattle.std.proofs.ByRecursion.{All-weaker}
 use Rattle.std.proofs.lemmas.Bool.{le-leb, lt-leb, cond-true, cond-false, cases_lt}
 use Rattle.choosing.specs.declared.share.Share.{Share}
@@ -51,7 +51,7 @@ demand_grows [] D E h = omega arith
 demand_grows (c ∷ cs) D E h = omega (arith, client_demand_grows c D E h, demand_grows cs D E h)
 
 -- Clients that are due by frame D with nothing left need no more than their rates bring.
-pub idle_demand : (d D : ℕ) (cs : List Share) → All (λ c. c.deadline ≤ D → c.left ≡ 0) cs → NoneBefore d cs → d ≤ D → demand cs D ≤ rates cs * (D - d)
+pub idle_demand : (d D : ℕ) (cs : List Share) → AllByRecursion (λ c. c.deadline ≤ D → c.left ≡ 0) cs → NoneBefore d cs → d ≤ D → demand cs D ≤ rates cs * (D - d)
 idle_demand d D [] idle from h = omega arith
 idle_demand d D (c ∷ cs) idle from h =
     omega (arith, add-mul c.rate (rates cs) (D - d), idle_demand d D cs idle.1 from.1 h, one)
@@ -92,12 +92,12 @@ loosely s [] w f b e = record {
 loosely s (c ∷ cs) w f b e = record { rated = w; none_before = f; covered = b; even = e (latest (c ∷ cs)) (omega (arith, f.0)) (omega arith) }
 
 -- Where the clients that are due by frame D have nothing left, the server brings more than they need.
-pub idle_spare : (s : Share) (cs : List Share) (D : ℕ) → Loosely s cs → 1 ≤ s.left → s.deadline ≤ D → All (λ c. c.deadline ≤ D → c.left ≡ 0) cs → demand cs D < supply s D
+pub idle_spare : (s : Share) (cs : List Share) (D : ℕ) → Loosely s cs → 1 ≤ s.left → s.deadline ≤ D → AllByRecursion (λ c. c.deadline ≤ D → c.left ≡ 0) cs → demand cs D < supply s D
 idle_spare s cs D b run h idle =
     omega (arith, idle_demand s.deadline D cs idle b.none_before h, ap (λ r. r * (D - s.deadline)) b.rated)
 
 -- A server with left has a client with left.
-pub not_idle : (s : Share) (cs : List Share) → Loosely s cs → 1 ≤ s.left → All (λ c. c.left ≡ 0) cs → ⊥
+pub not_idle : (s : Share) (cs : List Share) → Loosely s cs → 1 ≤ s.left → AllByRecursion (λ c. c.left ≡ 0) cs → ⊥
 not_idle s cs b run idle =
     let D : ℕ = max s.deadline (latest cs) in
     omega (arith, even_from s cs b D (omega arith), idle_spare s cs D b run (omega arith) (All-weaker (λ c. c.left ≡ 0) (λ c. c.deadline ≤ D → c.left ≡ 0) (λ c e h. e) cs idle))

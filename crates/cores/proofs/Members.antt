@@ -1,7 +1,7 @@
 -- Lists of tasks: who is named, how many pass a test, and what a fold keeps. Assumes nothing.
 use Rattle.std.proofs.Common.{◌≡◌, ℕ, zero, suc, ◌+◌, ◌<◌, ◌≤◌, Bool, true, false, eqb, ◌⊎◌, List, [], ◌∷◌, ◌++◌, length, get_or, fold, sym, refl, ap, ◌∙◌, inl, inr, arith}
 use Rattle.std.proofs.lemmas.Bool.{false≢true, both_ways, cases_Bool, cases_eq, eq-eqb, eqb-true, or_cases, or_left, or_right, or_parts}
-use Rattle.std.specs.List.{AllByRecursion as All}
+use Rattle.std.specs.List.{AllByRecursion}
 use Rattle.cores.specs.Naming.{member, Different}
 
 -- ---- who is named
@@ -17,7 +17,7 @@ member_cases t u ts m = elim (or_cases (eqb t u) (member t ts) m) [
   | inr later ↦ inr later
 ]
 
-pub all_member : (P : ℕ → Type 0) (ts : List ℕ) (t : ℕ) → All P ts → member t ts ≡ true → P t
+pub all_member : (P : ℕ → Type 0) (ts : List ℕ) (t : ℕ) → AllByRecursion P ts → member t ts ≡ true → P t
 all_member P [] t all m = absurd (false≢true m)
 all_member P (u ∷ ts) t all m = elim (member_cases t u ts m) [
   | inl e ↦ rw e all.0
@@ -120,7 +120,7 @@ module _ (test more : ℕ → Bool) (t : ℕ) (was : test t ≡ false) (now : mo
 -- ---- tasks in number order are different
 abbrev pub Rising : List ℕ → Type 0
 Rising [] = Unit {0}
-Rising (t ∷ ts) = All (λ u. t < u) ts × Rising ts
+Rising (t ∷ ts) = AllByRecursion (λ u. t < u) ts × Rising ts
 
 pub rising_different : (ts : List ℕ) → Rising ts → Different ts
 rising_different [] up = tt

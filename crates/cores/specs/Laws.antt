@@ -1,6 +1,6 @@
 -- What a placing is good for, whatever is named. A reader of the contracts has to believe this file.
 use Rattle.std.specs.Prelude.{◌≡◌, ℕ, ◌<◌, ◌≤◌, true, false, ◌⊎◌, List, ◌∷◌, ◌++◌, length, take, drop, Some, None, slice_index, slice_index_or}
-use Rattle.std.specs.List.{AllByRecursion as All}
+use Rattle.std.specs.List.{AllByRecursion}
 use Rattle.cores.specs.Naming.{member, Different, Names}
 use Rattle.cores.specs.declared.place.Cores.{Cores}
 
@@ -18,7 +18,7 @@ Recorded s = (t c : ℕ) → On s t c → LastOn s t c
 -- As a tick should name tasks: different ones, numbered below 80, as many as there are cores or fewer.
 pub record Fitting (named : List ℕ) (cores : ℕ) : Type 0 where
   pub different : Different named
-  pub tasks : All (λ t. t < 80) named
+  pub tasks : AllByRecursion (λ t. t < 80) named
   pub enough : length named ≤ cores
 
 -- The laws of a placing: the record before, the tasks named, the cores, the record after.

@@ -1,7 +1,7 @@
 -- The jobs of a ledger: the last job of each task, as jobs are added and held, and what holds of every job. Assumes nothing.
 use Rattle.std.proofs.Common.{◌≡◌, ℕ, suc, ◌*◌, ◌<◌, ◌≤◌, Bool, true, false, cond, not, ◌&&◌, eqb, List, [], ◌∷◌, ◌++◌, length, is_some, Some, None, Option, sym, refl, ap, ◌∙◌, arith}
 use Rattle.std.proofs.lemmas.Bool.{eqb-true, eq-eqb, and_parts, both_ways, not-true}
-use Rattle.std.specs.List.{AllByRecursion as All}
+use Rattle.std.specs.List.{AllByRecursion}
 use Rattle.cores.specs.Naming.{member}
 use Rattle.ledger.specs.Openings.{Opening}
 use Rattle.ledger.specs.Ledger.{Job, or_else, last_job, length_of, at_time, hold, Rising, Served}
@@ -149,7 +149,7 @@ fine_hold o time tasks (j ∷ jobs) f d =
 
 -- every job is served, if the last ones are held for their length when they are due
 pub all_served : (o : Opening) (time : ℕ) (jobs : List Job) → AllFine o time jobs
-    → ((i : ℕ) (job : Job) → last_job i jobs ≡ Some job → o.unit * job.deadline ≤ time → length job.held ≡ length_of o job) → All (Served o time) jobs
+    → ((i : ℕ) (job : Job) → last_job i jobs ≡ Some job → o.unit * job.deadline ≤ time → length job.held ≡ length_of o job) → AllByRecursion (Served o time) jobs
 all_served o time [] f d = tt
 all_served o time (j ∷ jobs) f d = (record { in_window = f.0.window; in_full = full (last_job j.task jobs) refl }, all_served o time jobs f.2 (λ i q e. d i q (last_tail i j jobs q e)))
   where

@@ -1,7 +1,7 @@
 -- Lists of task numbers: members, those that pass a test, how many they are, the least one. Assumes nothing.
 use Rattle.std.proofs.Common.{◌≡◌, ℕ, zero, suc, ◌+◌, ◌<◌, ◌≤◌, Bool, true, false, cond, ◌&&◌, ◌||◌, eqb, ◌⊎◌, List, [], ◌∷◌, length, filter, sym, refl, ap, ◌∙◌, inl, inr, arith}
 use Rattle.std.proofs.lemmas.Bool.{eqb-true, eq-eqb, ne_eqb, cases_eq, and_left, and_right, or_left, or_right}
-use Rattle.std.specs.List.{AllByRecursion as All}
+use Rattle.std.specs.List.{AllByRecursion}
 use Rattle.levels.specs.Sums.{bit, count, passing}
 use Rattle.levels.proofs.Sums.{sum_ext, sum_add, sum_zero, sum_one}
 use Rattle.cores.specs.Naming.{member, Different}
@@ -16,7 +16,7 @@ member_self i ns = or_left (eqb i i) (member i ns) (eq-eqb i i refl)
 member_later : (i n : ℕ) (ns : List ℕ) → member i ns ≡ true → member i (n ∷ ns) ≡ true
 member_later i n ns e = or_right (eqb i n) (member i ns) e
 
-pub all_members : (P : ℕ → Type 0) (ns : List ℕ) → ((i : ℕ) → member i ns ≡ true → P i) → All P ns
+pub all_members : (P : ℕ → Type 0) (ns : List ℕ) → ((i : ℕ) → member i ns ≡ true → P i) → AllByRecursion P ns
 all_members P [] f = tt
 all_members P (n ∷ ns) f = (f n (member_self n ns), all_members P ns (λ i e. f i (member_later i n ns e)))
 

@@ -2,7 +2,7 @@
 use Rattle.std.proofs.Common.{◌≡◌, ℕ, suc, ◌*◌, ◌<◌, ◌≤◌, false, List, [], ◌∷◌, length, sum, sym, refl, subst, inl, inr, arith}
 use Rattle.std.proofs.ByRecursion.{All-get_or}
 use Rattle.std.proofs.lemmas.Bool.{true≢false}
-use Rattle.std.specs.List.{AllByRecursion as All}
+use Rattle.std.specs.List.{AllByRecursion}
 use Rattle.packing.specs.declared.opening.OpeningRefusal.TheVariants.{Load, BadFrames}
 use Rattle.packing.specs.declared.refusal.Refusal.TheVariants.{BadCores, BadUnit, BadTaskCount, BadRate, Overload}
 use Rattle.packing.specs.Packing.{Within}
@@ -19,7 +19,7 @@ use Rattle.ledger.specs.Theorems.{Fails, AWorkedHistory, WrongHistoriesDoNotConf
 -- ---- the openings
 
 allowed : (cores unit frames : ℕ) (sheet : List ℕ) → (1 ≤ cores) × (cores ≤ 16) → (1 ≤ unit) × (unit ≤ 1000) → (1 ≤ frames) × (frames ≤ 65535)
-    → (1 ≤ length sheet) × (length sheet ≤ 64) → All (Within unit) sheet → sum sheet ≤ cores * unit → OpeningAllowed cores unit frames sheet
+    → (1 ≤ length sheet) × (length sheet ≤ 64) → AllByRecursion (Within unit) sheet → sum sheet ≤ cores * unit → OpeningAllowed cores unit frames sheet
 allowed cores unit frames sheet c u f t w s (Load BadCores) (inl h) = omega (arith, c.0)
 allowed cores unit frames sheet c u f t w s (Load BadCores) (inr h) = omega (arith, c.1)
 allowed cores unit frames sheet c u f t w s (Load BadUnit) (inl h) = omega (arith, u.0)
@@ -135,7 +135,7 @@ wrong_histories_do_not_conform = (
 -- ---- a history against the rule
 
 -- the laws at a time, of the idle task's job and of the jobs after it
-kept : (t : ℕ) (jobs : List Job) → All (Served one_loop t) jobs → Kept one_loop (record { time = t; jobs = jobs; unfinished = []; preemptions = 0 })
+kept : (t : ℕ) (jobs : List Job) → AllByRecursion (Served one_loop t) jobs → Kept one_loop (record { time = t; jobs = jobs; unfinished = []; preemptions = 0 })
 kept t jobs served = record { served = served; few_reductions = omega arith; few_preemptions = λ _. omega arith }
 
 -- a job of either task that was not yet held, and one that was held once, at time t

@@ -1,6 +1,6 @@
 -- The ledger of a run: kept from the opening's arguments, the calls and the tasks that granted ticks named, and from nothing else. A reader of the contracts has to believe this file.
 use Rattle.std.specs.Prelude.{◌≡◌, ℕ, suc, ◌+◌, ◌-◌, ◌*◌, ◌<◌, ◌≤◌, cond, not, ◌&&◌, List, [], ◌∷◌, ◌++◌, length, is_some, Some, None, filter, Option, ◌==◌, nat_lt}
-use Rattle.std.specs.List.{AllByRecursion as All}
+use Rattle.std.specs.List.{AllByRecursion}
 use Rattle.choosing.specs.Choosing.{Goes_on}
 use Rattle.cores.specs.Naming.{member, Different}
 use Rattle.ledger.specs.Openings.{Opening, idle_rates, rates, rate, reductions}
@@ -72,7 +72,7 @@ figures o l = record {
 pub record FullTick (o : Opening) (l : Ledger) (tasks : List ℕ) : Type 0 where
   pub as_cores : length tasks ≡ o.cores
   pub different : Different tasks
-  pub with_left : All (λ i. (i < length (rates o)) × (1 ≤ left o l.jobs i)) tasks
+  pub with_left : AllByRecursion (λ i. (i < length (rates o)) × (1 ≤ left o l.jobs i)) tasks
 
 -- This is an answer that the ledger gives.
 abbrev pub expected : Opening → Ledger → Call → Answer → Type 0
@@ -149,7 +149,7 @@ pub record Served (o : Opening) (time : ℕ) (job : Job) : Type 0 where
 -- The laws of a run: every job is served; there are at most four reductions; and a rule that goes on with the client that it
 -- named makes at most (2 × reductions + 1) × jobs preemptions.
 pub record Kept (o : Opening) (l : Ledger) : Type 0 where
-  pub served : All (Served o l.time) l.jobs
+  pub served : AllByRecursion (Served o l.time) l.jobs
   pub few_reductions : reductions o ≤ 4
   pub few_preemptions : Goes_on o.choose → l.preemptions ≤ (2 * reductions o + 1) * length l.jobs
 

@@ -1,6 +1,6 @@
 -- What the answer of a lawful rule tells. Assumes nothing.
 use Rattle.std.proofs.Common.{◌≡◌, ℕ, ◌≤◌, List, length, Some, None, subst, inl, inr, arith}
-use Rattle.std.specs.List.{AllByRecursion as All}
+use Rattle.std.specs.List.{AllByRecursion}
 use Rattle.std.proofs.ByRecursion.{All-from_get_or}
 use Rattle.std.proofs.lemmas.Bool.{cases_lt}
 use Rattle.choosing.specs.declared.share.Share.{Share}
@@ -9,7 +9,7 @@ use Rattle.choosing.specs.Choosing.{Rule, HasLeft, Names, KeepsBalance, Lawful}
 use Rattle.choosing.specs.Demands.{not_idle}
 
 -- Clients of which none can have left have nothing left.
-idle_all : (cs : List Share) → ((k : ℕ) → HasLeft cs k → ⊥) → All (λ c. c.left ≡ 0) cs
+idle_all : (cs : List Share) → ((k : ℕ) → HasLeft cs k → ⊥) → AllByRecursion (λ c. c.left ≡ 0) cs
 idle_all cs never = All-from_get_or (λ c. c.left ≡ 0) cs nothing
     (λ k h. elim (cases_lt (at cs k).left 1) [ inl less ↦ omega arith | inr has ↦ absurd (never k (h, has)) ])
 

@@ -1,6 +1,6 @@
 -- A frame start keeps every level sound: new jobs of items, and then the renewal of the servers that are due. Assumes nothing.
 use Rattle.std.proofs.Common.{◌≡◌, ℕ, zero, suc, ◌+◌, ◌-◌, ◌*◌, ◌/◌, ◌%◌, ◌<◌, ◌≤◌, Bool, true, false, cond, eqb, ◌⊎◌, List, [], ◌∷◌, length, None, sym, refl, ap, ◌∙◌, subst, inl, inr, add-mul, mul-le-mul_left, arith}
-use Rattle.std.specs.List.{AllByRecursion as All}
+use Rattle.std.specs.List.{AllByRecursion}
 use Rattle.std.proofs.ByRecursion.{All-weaker}
 use Rattle.std.proofs.lemmas.Bool.{eqb-true, eqb-false, cases_lt, cases_eq}
 use Rattle.packing.specs.Packing.{at_home}
@@ -52,11 +52,11 @@ abbrev pub NoneDue : ℕ → List Item → Type 0
 NoneDue f xs = (i : ℕ) → i < length xs → f < (item_at xs i).share.deadline
 
 -- What holds of all items holds of the clients of each server.
-client_if : (P : Share → Type 0) (b : Bool) (c : Share) (cs : List Share) → P c → All P cs → All P (cond b (c ∷ cs) cs)
+client_if : (P : Share → Type 0) (b : Bool) (c : Share) (cs : List Share) → P c → AllByRecursion P cs → AllByRecursion P (cond b (c ∷ cs) cs)
 client_if P true c cs h f = (h, f)
 client_if P false c cs h f = f
 
-pub all_clients : (P : Share → Type 0) (xs : List Item) (j : ℕ) → ((i : ℕ) → i < length xs → P (item_at xs i).share) → All P (clients xs j)
+pub all_clients : (P : Share → Type 0) (xs : List Item) (j : ℕ) → ((i : ℕ) → i < length xs → P (item_at xs i).share) → AllByRecursion P (clients xs j)
 all_clients P [] j g = tt
 all_clients P (x ∷ xs) j g = client_if P (at_home x.home j) x.share (clients xs j) (g 0 (omega arith)) (all_clients P xs j (λ i h. g (suc i) (omega arith)))
 

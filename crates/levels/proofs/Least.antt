@@ -1,6 +1,6 @@
 -- The least deadline of the clients. Assumes nothing.
 use Rattle.std.proofs.Common.{◌≡◌, ℕ, zero, suc, ◌<◌, ◌≤◌, min, List, [], ◌∷◌, length, refl, ap, ◌∙◌, inl, inr, arith}
-use Rattle.std.specs.List.{AllByRecursion as All}
+use Rattle.std.specs.List.{AllByRecursion}
 use Rattle.std.proofs.lemmas.Bool.{cases_lt}
 use Rattle.choosing.specs.declared.share.Share.{Share}
 use Rattle.choosing.specs.Balance.{at, rates, NoneBefore, SomeAt, spent_at}
@@ -29,7 +29,7 @@ some_at_least h d cs l f m = omega (arith, least_deadline_from h cs d l f, least
 
 -- Where all clients have their deadline by frame h, one of them has the least.
 abbrev pub AllBy : ℕ → List Share → Type 0
-AllBy h cs = All (λ c. c.deadline ≤ h) cs
+AllBy h cs = AllByRecursion (λ c. c.deadline ≤ h) cs
 
 some_client : (cs : List Share) → 1 ≤ rates cs → 1 ≤ length cs
 some_client [] r = absurd (omega arith)

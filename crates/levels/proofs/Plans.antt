@@ -1,7 +1,7 @@
 -- The plan of a lawful fitting rule opens a run. Assumes nothing.
 use Rattle.std.proofs.Common.{◌≡◌, ℕ, zero, suc, ◌+◌, ◌-◌, ◌<◌, ◌≤◌, Bool, true, false, cond, ◌⊎◌, List, [], ◌∷◌, length, get_or, drop, Some, None, sum, Option, sym, refl, ap, ◌∙◌, subst, inl, inr, arith}
 use lib.ListN.{length-map}
-use Rattle.std.specs.List.{AllByRecursion as All}
+use Rattle.std.specs.List.{AllByRecursion}
 use Rattle.std.proofs.lemmas.List.{get_or_past, get_or-map}
 use Rattle.std.proofs.ByRecursion.{All-get_or}
 use Rattle.std.proofs.lemmas.List.Sums.{sum_by-cons}
@@ -99,7 +99,7 @@ module _ (unit : ℕ) (items : List ℕ) (p : Packing) (s : SoundPacking unit it
         unspent = (refl, refl, refl);
       })
 
-  all_housed : All (Within unit) items → Housed (items_of items p.homes)
+  all_housed : AllByRecursion (Within unit) items → Housed (items_of items p.homes)
   all_housed w i m =
       let l : i < length items = rw length_items at m in
       let some : 1 ≤ get_or items i 0 = (All-get_or (Within unit) items i 0 l w).0 in
@@ -107,7 +107,7 @@ module _ (unit : ℕ) (items : List ℕ) (p : Packing) (s : SoundPacking unit it
       (j, item_home items p.homes i l ∙ q)
 
 -- The next level houses the duals of all servers but the roots.
-module _ (unit : ℕ) (rs : List ℕ) (within : All (Within unit) rs) (over : Packing) (up : SoundPacking unit (dual_rates unit rs) over) (j : ℕ)
+module _ (unit : ℕ) (rs : List ℕ) (within : AllByRecursion (Within unit) rs) (over : Packing) (up : SoundPacking unit (dual_rates unit rs) over) (j : ℕ)
     (l : j < length rs) where
   dual_rate : get_or (dual_rates unit rs) j 0 ≡ unit - get_or rs j 0
   dual_rate = get_or-map (λ x. unit - x) rs j 0 0 l
@@ -141,12 +141,12 @@ module _ (fit : Fitting) (unit : ℕ) where
     rw duals_are (planned_levels (dual_rates unit l.rates) (over ∷ above) p.2 s.1),
   )
 
-  plan_housed : (items : List ℕ) (plan : List Packing) → IsPlan fit unit items plan → SoundPackings unit items plan → All (Within unit) items
+  plan_housed : (items : List ℕ) (plan : List Packing) → IsPlan fit unit items plan → SoundPackings unit items plan → AllByRecursion (Within unit) items
       → Housed (items_of items (homes_in plan))
   plan_housed items [] p s w = absurd p
   plan_housed items (l ∷ above) p s w = all_housed unit items l s.0 w
 
-plan_few : (bounds : List ℕ) (plan : List Packing) → All (λ n. n ≤ 31) bounds → Sized bounds plan → FewServers (servers_in plan)
+plan_few : (bounds : List ℕ) (plan : List Packing) → AllByRecursion (λ n. n ≤ 31) bounds → Sized bounds plan → FewServers (servers_in plan)
 plan_few bounds [] b s = tt
 plan_few [] (l ∷ above) b s = absurd s
 plan_few (n ∷ bounds) (l ∷ above) b s = (omega (arith, length_servers l.rates (homes_in above), b.0, s.0), plan_few bounds above b.1 s.1)

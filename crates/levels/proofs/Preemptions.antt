@@ -1,6 +1,6 @@
 -- Over a whole run the preemptions are paid for by the jobs. Assumes nothing.
 use Rattle.std.proofs.Common.{◌≡◌, ℕ, zero, suc, ◌+◌, ◌-◌, ◌*◌, ◌/◌, ◌%◌, ◌<◌, ◌≤◌, Bool, true, false, cond, not, ◌&&◌, eqb, ltb, List, [], ◌∷◌, length, set, Some, None, Option, sym, refl, ap, ◌∙◌, mul-le-mul_right, add-mul, mul-le-mul_left, mul-add, arith}
-use Rattle.std.specs.List.{AllByRecursion as All}
+use Rattle.std.specs.List.{AllByRecursion}
 use Rattle.std.proofs.lemmas.List.{get_or-set_other}
 use Rattle.choosing.specs.declared.share.Share.{Share}
 use Rattle.choosing.specs.Balance.{rates}
@@ -43,7 +43,7 @@ many_false (x ∷ xs) = omega (arith, if_homed_most x.home 0, many_false xs)
 
 -- ---- the opening
 
-unbegun_least : (h : ℕ) (cs : List Share) → All Unbegun cs → 1 ≤ rates cs → least_deadline h cs ≡ 0
+unbegun_least : (h : ℕ) (cs : List Share) → AllByRecursion Unbegun cs → 1 ≤ rates cs → least_deadline h cs ≡ 0
 unbegun_least h [] r l = absurd (omega arith)
 unbegun_least h (c ∷ cs) r l = omega (arith, r.0.1)
 

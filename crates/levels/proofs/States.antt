@@ -1,7 +1,7 @@
 -- Every state of a run is sound, and what follows from it. Assumes nothing.
 use Rattle.std.proofs.Common.{◌≡◌, ℕ, zero, suc, ◌+◌, ◌-◌, ◌*◌, ◌/◌, ◌%◌, ◌<◌, ◌≤◌, Bool, true, false, cond, eqb, ◌⊎◌, List, [], ◌∷◌, length, set, Some, sym, refl, ap, ◌∙◌, subst, inl, inr, mul-le-mul_right, arith, length-set}
 use native.Mathlib.Nat.{mul-mod_right}
-use Rattle.std.specs.List.{AllByRecursion as All}
+use Rattle.std.specs.List.{AllByRecursion}
 use Rattle.std.proofs.lemmas.List.{get_or-set_same, get_or-set_other}
 use Rattle.std.proofs.lemmas.Bool.{eqb-false, cases_lt, cases_eq, cases_order}
 use Rattle.packing.specs.Packing.{at_home}
@@ -33,7 +33,7 @@ Unbegun c = (c.left ≡ 0) × (c.deadline ≡ 0)
 abbrev pub UnbegunItems : List Item → Type 0
 UnbegunItems xs = (i : ℕ) → i < length xs → Unbegun (item_at xs i).share
 
-unbegun_demand : (cs : List Share) (D : ℕ) → All Unbegun cs → demand cs D ≡ rates cs * D
+unbegun_demand : (cs : List Share) (D : ℕ) → AllByRecursion Unbegun cs → demand cs D ≡ rates cs * D
 unbegun_demand [] D r = omega arith
 unbegun_demand (c ∷ cs) D r =
     omega (arith, unbegun_demand cs D r.1, client_demand_from c D (omega (arith, r.0.1)), r.0.0, ap (λ d. c.rate * (D - d)) r.0.1, ap (λ n. c.rate * n) (all D))
@@ -45,7 +45,7 @@ none_before_0 : (cs : List Share) → NoneBefore 0 cs
 none_before_0 [] = tt
 none_before_0 (c ∷ cs) = (omega arith, none_before_0 cs)
 
-opening_kept : (unit frames t : ℕ) (s : Server) (cs : List Share) → t ≡ 0 → Planned unit s cs → All Unbegun cs → length cs ≤ 80
+opening_kept : (unit frames t : ℕ) (s : Server) (cs : List Share) → t ≡ 0 → Planned unit s cs → AllByRecursion Unbegun cs → length cs ≤ 80
     → Kept unit frames t s cs
 opening_kept unit frames t s cs z p r few = record {
   loosely = loosely s.share cs p.rated (rw p.unspent.1 (none_before_0 cs)) (λ D h. omega (arith, even D)) (λ D h l. even D);

@@ -1,6 +1,6 @@
 -- The idle tasks fill the cores, and are no more than the cores. Assumes nothing.
 use Rattle.std.proofs.Common.{◌≡◌, ℕ, zero, suc, ◌+◌, ◌-◌, ◌*◌, ◌/◌, ◌%◌, ◌<◌, ◌≤◌, eqb, List, [], ◌∷◌, ◌++◌, length, get_or, take, set, replicate, sum, sym, ap, ◌∙◌, subst, inl, inr, ⊎_elim, mul-le-mul_right, suc-mul, zero-mul, arith}
-use Rattle.std.specs.List.{AllByRecursion as All}
+use Rattle.std.specs.List.{AllByRecursion}
 use Rattle.std.proofs.ByRecursion.{All-append, All-from_get_or}
 use Rattle.std.proofs.lemmas.List.{append_assoc, append-nil, length-append, length_push, length-replicate}
 use Rattle.std.proofs.lemmas.List.Sums.{sum_by-cons, sum_by-append}
@@ -47,17 +47,17 @@ sum_unless rate = ⊎_elim
     (λ some. ap sum (unless_some rate some) ∙ sum_by-cons (λ y. y) rate [] ∙ omega arith)
     (cases_eq rate 0)
 
-all_unless : (unit rate : ℕ) → rate ≤ unit → All (Within unit) (unless_zero rate)
+all_unless : (unit rate : ℕ) → rate ≤ unit → AllByRecursion (Within unit) (unless_zero rate)
 all_unless unit rate fits = ⊎_elim
-    (λ none. subst (All (Within unit)) (sym (unless_none rate none)) tt)
-    (λ some. subst (All (Within unit)) (sym (unless_some rate some)) ((omega arith, fits), tt))
+    (λ none. subst (AllByRecursion (Within unit)) (sym (unless_none rate none)) tt)
+    (λ some. subst (AllByRecursion (Within unit)) (sym (unless_some rate some)) ((omega arith, fits), tt))
     (cases_eq rate 0)
 
 sum_replicate : (n rate : ℕ) → sum (replicate n rate) ≡ n * rate
 sum_replicate zero rate = omega (arith, zero-mul rate)
 sum_replicate (suc n) rate = omega (arith, sum_by-cons (λ y. y) rate (replicate n rate), sum_replicate n rate, suc-mul n rate)
 
-all_replicate : (P : ℕ → Type 0) (n x : ℕ) → P x → All P (replicate n x)
+all_replicate : (P : ℕ → Type 0) (n x : ℕ) → P x → AllByRecursion P (replicate n x)
 all_replicate P zero x h = tt
 all_replicate P (suc n) x h = (h, all_replicate P n x h)
 
@@ -67,7 +67,7 @@ module _ (unit parts : ℕ) (a_unit : 1 ≤ unit) where
       sum_by-append (λ y. y) (replicate (parts / unit) unit) (unless_zero (parts % unit))
       ∙ omega (arith, sum_replicate (parts / unit) unit, sum_unless (parts % unit))
 
-  all_idle : All (Within unit) (idle unit parts)
+  all_idle : AllByRecursion (Within unit) (idle unit parts)
   all_idle =
       All-append (Within unit) (replicate (parts / unit) unit) (unless_zero (parts % unit))
       (all_replicate (Within unit) (parts / unit) unit (a_unit, omega arith))

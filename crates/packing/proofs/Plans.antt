@@ -1,7 +1,7 @@
 -- How many servers a packing opens, and how many levels a plan has. Assumes nothing.
 use Rattle.std.proofs.Common.{◌≡◌, ℕ, zero, suc, ◌+◌, ◌-◌, ◌*◌, ◌<◌, ◌≤◌, ◌≢◌, ◌⊎◌, List, [], ◌∷◌, length, get_or, sum, sym, refl, ap, ◌∙◌, subst, inl, inr, ⊎_elim, mul_assoc, suc-mul, mul_comm, lt_of_mul-lt-mul_right, zero-mul, le_of_mul-le-mul_right, arith}
 use native.Mathlib.Nat.{mul-sub, eq_of_mul-eq-mul_right}
-use Rattle.std.specs.List.{AllByRecursion as All}
+use Rattle.std.specs.List.{AllByRecursion}
 use Rattle.std.proofs.lemmas.List.{length-set, length_push, length-map, get_or_push, get_or-map}
 use Rattle.std.proofs.lemmas.List.Sums.{sum_by-cons}
 use Rattle.std.proofs.ByRecursion.{sum_by_le, All-get_or, All-map, All-weaker}
@@ -14,7 +14,7 @@ use Rattle.packing.proofs.Sounds.{one_item, sound_packing}
 
 -- ---- the rates of a level sum to a multiple of the unit
 
-pub sum_duals : (unit : ℕ) (xs : List ℕ) → All (Within unit) xs → sum (duals unit xs) + sum xs ≡ length xs * unit
+pub sum_duals : (unit : ℕ) (xs : List ℕ) → AllByRecursion (Within unit) xs → sum (duals unit xs) + sum xs ≡ length xs * unit
 sum_duals unit [] all = omega (arith, zero-mul unit)
 sum_duals unit (x ∷ xs) all =
     omega (arith, sum_duals unit xs all.1, all.0, sum_by-cons (λ y. y) x xs, sum_by-cons (λ y. y) (unit - x) (duals unit xs), suc-mul (length xs) unit)
@@ -119,7 +119,7 @@ multiple_two zero unit y e h = absurd (omega (arith, zero-mul unit))
 multiple_two (suc zero) unit y e h = absurd (omega (arith, suc-mul 0 unit, zero-mul unit))
 multiple_two (suc (suc m)) unit y e h = omega (arith, suc-mul (suc m) unit, suc-mul m unit)
 
-pub few_roots : (unit m : ℕ) (xs : List ℕ) → All (Within unit) xs → Crowded unit xs → sum xs ≡ m * unit → length xs ≤ 2 → OnlyRoots unit xs
+pub few_roots : (unit m : ℕ) (xs : List ℕ) → AllByRecursion (Within unit) xs → Crowded unit xs → sum xs ≡ m * unit → length xs ≤ 2 → OnlyRoots unit xs
 few_roots unit m [] all c full h = tt
 few_roots unit m (x ∷ []) all c full h =
     let total : x ≡ m * unit = omega (arith, sum_by-cons (λ y. y) x []) in
@@ -162,7 +162,7 @@ sized_length (n ∷ ns) (l ∷ ls) s = omega (arith, sized_length ns ls s.1)
 module _ (rule : Rule) (lawful : Lawful rule) (unit : ℕ) where
   -- items that fill a number of cores
   abbrev Fills : List ℕ → Type 0
-  Fills items = All (λ x. x ≤ unit) items × ((m : ℕ) × (sum items ≡ m * unit))
+  Fills items = AllByRecursion (λ x. x ≤ unit) items × ((m : ℕ) × (sum items ≡ m * unit))
 
   servers_sum : (items : List ℕ) (f : Fills items) → sum (servers_of rule unit items) ≡ f.1.0 * unit
   servers_sum items f = (sound_packing rule lawful unit items f.0).sums ∙ f.1.1
@@ -171,7 +171,7 @@ module _ (rule : Rule) (lawful : Lawful rule) (unit : ℕ) where
   cores_le : 1 ≤ unit → (items : List ℕ) (f : Fills items) → f.1.0 ≤ length (servers_of rule unit items)
   cores_le some items f =
       let s : List ℕ = servers_of rule unit items in
-      let within : All (λ x. x ≤ unit) s = All-weaker (Within unit) (λ x. x ≤ unit) (λ x h. h.1) s (sound_packing rule lawful unit items f.0).within in
+      let within : AllByRecursion (λ x. x ≤ unit) s = All-weaker (Within unit) (λ x. x ≤ unit) (λ x h. h.1) s (sound_packing rule lawful unit items f.0).within in
       let least : f.1.0 * unit ≤ length s * unit = omega (arith, servers_sum items f, sum_by_le (λ x. x) unit s within) in
       le_of_mul-le-mul_right least some
 

@@ -1,6 +1,6 @@
 -- A plan that is built from below: the levels so far, and the items of the next. Assumes nothing.
 use Rattle.std.proofs.Common.{◌≡◌, ℕ, ◌+◌, ◌-◌, ◌<◌, ◌≤◌, List, [], ◌∷◌, ◌++◌, map, length, take, set, replicate, sym, refl, ap, ◌∙◌, subst, arith}
-use Rattle.std.specs.List.{AllByRecursion as All}
+use Rattle.std.specs.List.{AllByRecursion}
 use Rattle.std.proofs.lemmas.List.{append_assoc, length-append, length_push, length-map, map_push}
 use Rattle.packing.specs.declared.level.Level.{Level}
 use Rattle.packing.specs.Fitting.{Rule}
@@ -56,7 +56,7 @@ module _ (rule : Rule) (unit : ℕ) (items : List ℕ) where
 
   -- the next level has at most as many servers as the greatest bound
   small_level : (most : ℕ) (bounds : List ℕ) (done rest : List Packing) → IsPlan rule unit items rest
-      → All (λ n. n ≤ most) bounds → Sized bounds (done ++ rest) → length (servers_of rule unit items) ≤ most
+      → AllByRecursion (λ n. n ≤ most) bounds → Sized bounds (done ++ rest) → length (servers_of rule unit items) ≤ most
   small_level most bounds [] [] p all s = absurd p
   small_level most [] [] (l ∷ above) p all s = absurd s
   small_level most (n ∷ bounds) [] (l ∷ []) p all s = omega (arith, s.0, all.0, ap (λ x. length x.rates) p.0)

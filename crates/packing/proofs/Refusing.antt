@@ -1,6 +1,6 @@
 -- The refusal that counts, once the rows before it are passed. Assumes nothing.
 use Rattle.std.proofs.Common.{ℕ, ◌*◌, ◌<◌, ◌≤◌, List, length, take, Some, sum, inl, inr, arith}
-use Rattle.std.specs.List.{AllByRecursion as All}
+use Rattle.std.specs.List.{AllByRecursion}
 use Rattle.std.proofs.ByRecursion.{All-get_or}
 use Rattle.std.proofs.lemmas.List.{get_or-take, length-take-le}
 use Rattle.packing.specs.declared.refusal.Refusal.{Refusal}
@@ -23,7 +23,7 @@ module _ (cores unit : ℕ) (sheet : List ℕ) (some_cores : (1 ≤ cores) × (c
   head Overload a below = omega arith
 
   -- no task below i has a bad rate
-  lower : (i : ℕ) → i ≤ length sheet → All (Within unit) (take i sheet) → (k : ℕ) → k < i → Applies cores unit sheet (BadRate k) → ⊥
+  lower : (i : ℕ) → i ≤ length sheet → AllByRecursion (Within unit) (take i sheet) → (k : ℕ) → k < i → Applies cores unit sheet (BadRate k) → ⊥
   lower i fits all k below a =
       let here : k < length (take i sheet) = simp (length-take-le i sheet fits) below in
       a.1 (rw (get_or-take i sheet k 0 below) at (All-get_or (Within unit) (take i sheet) k 0 here all))
@@ -39,7 +39,7 @@ module _ (cores unit : ℕ) (sheet : List ℕ) (some_cores : (1 ≤ cores) × (c
       earlier BadTaskCount a (inr same) = same.1
       earlier Overload a (inr same) = same.1
 
-  module _ (all : All (Within unit) sheet) where
+  module _ (all : AllByRecursion (Within unit) sheet) where
     no_bad_rate : (k : ℕ) → Applies cores unit sheet (BadRate k) → ⊥
     no_bad_rate k a = a.1 (All-get_or (Within unit) sheet k 0 a.0 all)
 

@@ -1,6 +1,6 @@
 -- What holds of every packing by a lawful rule. Assumes nothing.
 use Rattle.std.proofs.Common.{◌≡◌, ℕ, zero, suc, ◌+◌, ◌<◌, ◌≤◌, Bool, true, false, cond, eqb, ◌≢◌, List, [], ◌∷◌, ◌++◌, length, get_or, set, Some, None, sum, Option, sym, refl, ap, ◌∙◌, ⊎_elim, arith}
-use Rattle.std.specs.List.{AllByRecursion as All}
+use Rattle.std.specs.List.{AllByRecursion}
 use Rattle.std.proofs.lemmas.List.{length-set, length_push, get_or-set_same, get_or-set_other, get_or_append_left, get_or_push, get_or_past}
 use Rattle.std.proofs.lemmas.List.Sums.{sum_by-cons, sum_by_push, sum_by-set}
 use Rattle.std.proofs.ByRecursion.{All-set, All-push}
@@ -88,14 +88,14 @@ module _ (rule : Rule) (lawful : Lawful rule) (unit : ℕ) where
 
   -- ---- within the unit
 
-  step_within : (used : List ℕ) (x : ℕ) → x ≤ unit → All (Within unit) used → All (Within unit) (used_after rule unit used x)
+  step_within : (used : List ℕ) (x : ℕ) → x ≤ unit → AllByRecursion (Within unit) used → AllByRecursion (Within unit) (used_after rule unit used x)
   step_within used x h all =
-      one_item rule unit used x (λ ps _. All (Within unit) ps)
+      one_item rule unit used x (λ ps _. AllByRecursion (Within unit) ps)
       (λ _. all)
       (λ k some e. All-set (Within unit) used k _ (omega arith, (named_room rule lawful used unit x k e).1) all)
       (λ some _. All-push (Within unit) used x all (omega arith, h))
 
-  filled_within : (used xs : List ℕ) → All (Within unit) used → All (λ x. x ≤ unit) xs → All (Within unit) (filled rule unit used xs)
+  filled_within : (used xs : List ℕ) → AllByRecursion (Within unit) used → AllByRecursion (λ x. x ≤ unit) xs → AllByRecursion (Within unit) (filled rule unit used xs)
   filled_within used [] all small = all
   filled_within used (x ∷ xs) all small = filled_within (used_after rule unit used x) xs (step_within used x small.0 all) small.1
 
@@ -160,7 +160,7 @@ module _ (rule : Rule) (lawful : Lawful rule) (unit : ℕ) where
   filled_unhoused used (x ∷ xs) zero h none = cond-true _ _ _ (eq-eqb _ _ none)
   filled_unhoused used (x ∷ xs) (suc i) h none = filled_unhoused (used_after rule unit used x) xs i (omega arith) none
 
-  pub sound_packing : (items : List ℕ) → All (λ x. x ≤ unit) items → Sound unit items (packing_of rule unit items)
+  pub sound_packing : (items : List ℕ) → AllByRecursion (λ x. x ≤ unit) items → Sound unit items (packing_of rule unit items)
   sound_packing items small = record {
     homes_known = length_settled rule unit [] items;
     housed = filled_housed [] items;

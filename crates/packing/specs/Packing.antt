@@ -1,6 +1,6 @@
 -- The items of one level packed into servers. A reader of the contracts has to believe this file.
 use Rattle.std.specs.Prelude.{◌≡◌, ℕ, ◌+◌, ◌<◌, ◌≤◌, Bool, false, cond, ◌≢◌, List, [], ◌∷◌, ◌++◌, length, Some, None, sum, Option, ◌==◌, slice_index, slice_index_or, slice_set}
-use Rattle.std.specs.List.{AllByRecursion as All}
+use Rattle.std.specs.List.{AllByRecursion}
 use Rattle.packing.specs.Fitting.{Rule}
 
 -- A packing of items: the server that each item was placed in, its home, and the rate of each server, in order of
@@ -76,5 +76,5 @@ pub record Sound (unit : ℕ) (items : List ℕ) (p : Packing) : Type 0 where
   -- the rate of a server is the sum of its clients' rates
   pub loads : (j : ℕ) → slice_index p.rates j ≡ sum (clients p.homes items j)
   pub sums : sum p.rates ≡ sum items
-  pub within : All (Within unit) p.rates
+  pub within : AllByRecursion (Within unit) p.rates
   pub crowded : Crowded unit p.rates

@@ -1,6 +1,6 @@
 -- The plan of a load: its tasks, packed level by level until only roots are left. A reader of the contracts has to believe this file.
 use Rattle.std.specs.Prelude.{◌≡◌, ℕ, ◌-◌, ◌*◌, ◌/◌, ◌%◌, ◌<◌, ◌≤◌, cond, List, [], ◌∷◌, ◌++◌, map, length, replicate, Some, None, sum, Option, ◌==◌, slice_index, slice_index_or}
-use Rattle.std.specs.List.{AllByRecursion as All}
+use Rattle.std.specs.List.{AllByRecursion}
 use Rattle.packing.specs.Fitting.{Rule}
 use Rattle.packing.specs.Packing.{Packing, packing_of, Sound, Within}
 
@@ -26,7 +26,7 @@ all_tasks cores unit sheet = sheet ++ idle unit (spare cores unit sheet)
 
 -- A root is a server that has the whole unit.
 abbrev pub OnlyRoots : ℕ → List ℕ → Type 0
-OnlyRoots unit rates = All (λ rate. rate ≡ unit) rates
+OnlyRoots unit rates = AllByRecursion (λ rate. rate ≡ unit) rates
 
 -- The dual of a server has the rest of the unit as its rate, and its number. A root has none: what is left is 0, no item.
 abbrev pub duals : ℕ → List ℕ → List ℕ
@@ -85,7 +85,7 @@ pub record FullCores (unit cores : ℕ) (items : List ℕ) : Type 0 where
   pub a_unit : 1 ≤ unit
   pub a_core : 1 ≤ cores
   pub few_cores : cores ≤ 16
-  pub within : All (Within unit) items
+  pub within : AllByRecursion (Within unit) items
   pub full : sum items ≡ cores * unit
 
 -- There is exactly one plan. It has at most four reductions; its levels have at most 31, 16, 8, 4 and 2 servers, and each

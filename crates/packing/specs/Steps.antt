@@ -1,6 +1,6 @@
 -- What the inner steps of packing leave in their tables; only contracts of private functions cite this.
 use Rattle.std.specs.Prelude.{◌≡◌, ℕ, ◌*◌, ◌<◌, ◌≤◌, List, map, length, take, replicate, Some, None, sum, Option, slice_index}
-use Rattle.std.specs.List.{AllByRecursion as All}
+use Rattle.std.specs.List.{AllByRecursion}
 use Rattle.packing.specs.Packing.{Packing, Within, grown, goes_to}
 use Rattle.packing.specs.Fitting.{Rule}
 use Rattle.packing.specs.Plan.{FullCores, IsPlan}
@@ -23,8 +23,8 @@ pub record Packed (p : Packing) (n : ℕ) (old_homes new_homes : List (Option �
 
 -- The first task whose rate is not within the unit, or none.
 abbrev pub FirstOutside : ℕ → List ℕ → Option ℕ → Type 0
-FirstOutside unit sheet None = All (Within unit) sheet
-FirstOutside unit sheet (Some i) = (i < length sheet) × (Within unit (slice_index sheet i) → ⊥) × All (Within unit) (take i sheet)
+FirstOutside unit sheet None = AllByRecursion (Within unit) sheet
+FirstOutside unit sheet (Some i) = (i < length sheet) × (Within unit (slice_index sheet i) → ⊥) × AllByRecursion (Within unit) (take i sheet)
 
 -- The items fill some number of cores.
 abbrev pub FillsCores : ℕ → List ℕ → Type 0
@@ -43,5 +43,5 @@ pub record Limits (cores unit : ℕ) (sheet : List ℕ) : Type 0 where
   pub a_unit : 1 ≤ unit
   pub small_unit : unit ≤ 1000
   pub few_tasks : length sheet ≤ 64
-  pub within : All (Within unit) sheet
+  pub within : AllByRecursion (Within unit) sheet
   pub fits : sum sheet ≤ cores * unit

@@ -1,6 +1,6 @@
 -- What a granted announcement leaves. Assumes nothing.
 use Rattle.std.proofs.Common.{◌≡◌, ℕ, zero, suc, ◌+◌, ◌-◌, ◌*◌, ◌/◌, ◌^◌, ◌<◌, ◌≤◌, Bool, true, false, cond, not, eqb, ltb, leb, ◌≢◌, List, [], ◌∷◌, map, length, take, set, None, sum_by, sym, refl, ap, ◌∙◌, subst, inl, inr, mul-le-mul_right, mul_comm, div-lt_iff_lt-mul, mul-le-mul_left, arith, length-set, get_or-set_other, get_or-set_same}
-use Rattle.std.specs.List.{AllByRecursion as All}
+use Rattle.std.specs.List.{AllByRecursion}
 use Rattle.std.proofs.ByRecursion.{All-from_get_or, sum_by_le}
 use Rattle.std.proofs.lemmas.List.{get_or-take, length-take}
 use Rattle.std.proofs.lemmas.List.Sums.{sum_by-set}
@@ -82,7 +82,7 @@ deadline_sum s = sum_by (λ (t : Task). t.share.deadline) (take s.count s.tasks)
 deadline_sum_bound : (s : State) → Kept s → deadline_sum s ≤ 80 * 65535
 deadline_sum_bound s kept =
     let n : length (take s.count s.tasks) ≤ 80 = omega (arith, length-take s.count s.tasks, kept.tables.0) in
-    let each : All (λ (t : Task). t.share.deadline ≤ 65535) (take s.count s.tasks) = All-from_get_or (λ (t : Task). t.share.deadline ≤ 65535) (take s.count s.tasks) blank_task
+    let each : AllByRecursion (λ (t : Task). t.share.deadline ≤ 65535) (take s.count s.tasks) = All-from_get_or (λ (t : Task). t.share.deadline ≤ 65535) (take s.count s.tasks) blank_task
     (λ i h. let below : i < s.count = omega (arith, length-take s.count s.tasks) in
     omega (arith, ap (λ (t : Task). t.share.deadline) (get_or-take s.count s.tasks i blank_task below), kept.within i below, kept.numbers.2)) in
     omega (arith, sum_by_le (λ (t : Task). t.share.deadline) 65535 (take s.count s.tasks) each, mul-le-mul_right 65535 n)

@@ -1,6 +1,6 @@
 -- A granted tick, from the levels to the start of the next frame, is a tick of the scheduler. Assumes nothing.
 use Rattle.std.proofs.Common.{◌≡◌, ℕ, suc, ◌+◌, ◌*◌, ◌^◌, ◌<◌, ◌≤◌, Bool, true, false, not, ◌&&◌, ltb, List, map, length, get_or, take, Some, None, sum_by, sum, filter, Option, sym, refl, ap, ◌∙◌, subst, ap₂, mul-le-mul, arith}
-use Rattle.std.specs.List.{AllByRecursion as All}
+use Rattle.std.specs.List.{AllByRecursion}
 use Rattle.std.proofs.ByRecursion.{all_kept_by, All-weaker}
 use Rattle.std.proofs.lemmas.List.{length-map, length-take, length-take-le}
 use Rattle.std.proofs.lemmas.List.Sums.{sum-map}
@@ -213,7 +213,7 @@ module _ (s : State) (kept : Kept s) (width : ℕ) (granted : None ≡ refusal (
           preemptions = omega (arith, kept.preemptions, few_preempted);
           unfinished = distinct_from s.count (numbers_of s2.unfinished)
               (subst Different (sym left_over) (different_kept (has_left s1.tasks) nm w.exactly.0))
-              (subst (All (λ i. i < s.count)) (sym left_over) (all_kept_by (has_left s1.tasks) (λ i. i < s.count) nm w.below));
+              (subst (AllByRecursion (λ i. i < s.count)) (sym left_over) (all_kept_by (has_left s1.tasks) (λ i. i < s.count) nm w.below));
           recorded = λ t c on. is_task_of (get_or p3.last t None) c (recorded t c (task_of (get_or p3.held c None) t on));
         })
 

@@ -1,6 +1,6 @@
 -- Lists of different task numbers. Assumes nothing.
 use Rattle.std.proofs.Common.{◌≡◌, ℕ, zero, suc, ◌<◌, ◌≤◌, true, not, ◌&&◌, ltb, List, [], ◌∷◌, map, length, get_or, take, refl, ap₂, inl, inr, arith}
-use Rattle.std.specs.List.{AllByRecursion as All}
+use Rattle.std.specs.List.{AllByRecursion}
 use Rattle.std.proofs.ByRecursion.{All-get_or}
 use Rattle.std.proofs.lemmas.List.{get_or_past, get_or-take, length-take}
 use Rattle.std.proofs.lemmas.Bool.{cases_lt, lt-ltb, ltb-true, and_from, and_parts, not-true, not_from_false}
@@ -9,13 +9,13 @@ use Rattle.run.specs.declared.task.Task.{Task}
 use Rattle.run.specs.Views.{blank_task}
 use Rattle.run.specs.Keeping.{distinct_below}
 
-pub distinct_from : (n : ℕ) (is : List ℕ) → Different is → All (λ i. i < n) is → distinct_below n is ≡ true
+pub distinct_from : (n : ℕ) (is : List ℕ) → Different is → AllByRecursion (λ i. i < n) is → distinct_below n is ≡ true
 distinct_from n [] d a = refl
 distinct_from n (i ∷ is) d a =
     and_from (ltb i n) (not (member i is) && distinct_below n is) (lt-ltb i n a.0)
     (and_from (not (member i is)) (distinct_below n is) (not_from_false (member i is) d.0) (distinct_from n is d.1 a.1))
 
-pub distinct_to : (n : ℕ) (is : List ℕ) → distinct_below n is ≡ true → Different is × All (λ i. i < n) is
+pub distinct_to : (n : ℕ) (is : List ℕ) → distinct_below n is ≡ true → Different is × AllByRecursion (λ i. i < n) is
 distinct_to n [] e = (tt, tt)
 distinct_to n (i ∷ is) e =
     let (below, rest) = and_parts (ltb i n) (not (member i is) && distinct_below n is) e in
@@ -24,7 +24,7 @@ distinct_to n (i ∷ is) e =
     ((not-true (member i is) new, d), (ltb-true i n below, a))
 
 -- Each number of the front of a table is below n, where all of the list are; past the end stands 0.
-pub below_at : (m c : ℕ) (xs : List ℕ) → 0 < m → All (λ i. i < m) (take c xs) → (k : ℕ) → k < c → get_or xs k 0 < m
+pub below_at : (m c : ℕ) (xs : List ℕ) → 0 < m → AllByRecursion (λ i. i < m) (take c xs) → (k : ℕ) → k < c → get_or xs k 0 < m
 below_at m c xs some all k h = elim (cases_lt k (length xs)) [
   | inl inside ↦ let here : get_or (take c xs) k 0 < m = All-get_or (λ i. i < m) (take c xs) k 0 (omega (arith, length-take c xs)) all in omega (arith, get_or-take c xs k 0 h)
   | inr past ↦ omega (arith, get_or_past xs k 0 past)

@@ -1,7 +1,7 @@
 -- The plan that is made of an allowed load fits the tables of a run. Assumes nothing.
 use Rattle.std.proofs.Common.{◌≡◌, ℕ, ◌-◌, ◌<◌, ◌≤◌, List, [], ◌∷◌, map, length, get_or, drop, replicate, sym, ap, ◌∙◌, subst, inl, inr, arith}
 use lib.Seq.{drop-append_seam}
-use Rattle.std.specs.List.{AllByRecursion as All}
+use Rattle.std.specs.List.{AllByRecursion}
 use Rattle.std.proofs.ByRecursion.{All-get_or}
 use Rattle.std.proofs.lemmas.List.{get_or_append_left, get_or-map, length-append, length-map}
 use Rattle.std.proofs.lemmas.Bool.{cases_lt}
@@ -26,7 +26,7 @@ use Rattle.run.specs.Opened.{begin_idle, Filled, Fits, Opens, plan_level, rates_
 abbrev no_packing : Packing
 no_packing = record { homes = []; rates = [] }
 
-few_rates : (most : List ℕ) (levels : List Packing) → All (λ n. n ≤ 31) most → Sized most levels → All (λ l. length l.rates ≤ 31) levels
+few_rates : (most : List ℕ) (levels : List Packing) → AllByRecursion (λ n. n ≤ 31) most → Sized most levels → AllByRecursion (λ l. length l.rates ≤ 31) levels
 few_rates most [] few sized = tt
 few_rates [] (l ∷ above) few sized = absurd sized
 few_rates (n ∷ most) (l ∷ above) few sized = (omega (arith, few.0, sized.0), few_rates most above few.1 sized.1)
@@ -46,7 +46,7 @@ module _ (unit : ℕ) (tasks : List ℕ) (levels : List Packing) where
       get_or_append_left (map level_table levels) (drop (length (map level_table levels)) (replicate 5 blank_level)) _ k (omega (arith, length_made))
       ∙ get_or-map level_table levels k no_packing _ below
 
-  module _ (few_tasks : length tasks ≤ 80) (few_levels : length levels ≤ 5) (few : All (λ l. length l.rates ≤ 31) levels) where
+  module _ (few_tasks : length tasks ≤ 80) (few_levels : length levels ≤ 5) (few : AllByRecursion (λ l. length l.rates ≤ 31) levels) where
     rates_few : (k : ℕ) → k < length levels → length (get_or levels k no_packing).rates ≤ 31
     rates_few k below = All-get_or (λ l. length l.rates ≤ 31) levels k no_packing below few
 
@@ -83,10 +83,10 @@ module _ (rule : Rule) (cores unit frames : ℕ) (sheet : List ℕ) (p : Plan) (
   pub fits_tables : Fits p cores frames (length sheet)
   fits_tables =
       let load : Limits cores unit sheet = limits cores unit sheet (λ f applies. allowed (Load f) applies) in
-      let within : All (Within unit) tasks = (full_tasks cores unit sheet load).within in
+      let within : AllByRecursion (Within unit) tasks = (full_tasks cores unit sheet load).within in
       let levels : List Packing = planned.plan.levels in
       let few_levels : length levels ≤ 5 = omega (arith, planned.plan.few_reductions) in
-      let few : All (λ n. n ≤ 31) (31 ∷ 16 ∷ 8 ∷ 4 ∷ 2 ∷ []) = (omega arith, (omega arith, (omega arith, (omega arith, (omega arith, tt))))) in
+      let few : AllByRecursion (λ n. n ≤ 31) (31 ∷ 16 ∷ 8 ∷ 4 ∷ 2 ∷ []) = (omega arith, (omega arith, (omega arith, (omega arith, (omega arith, tt))))) in
       let count : p.tasks ≡ length tasks = ap (λ q. q.tasks) planned.tables in
       let same : p.unit ≡ unit = ap (λ q. q.unit) planned.tables in
       record {

@@ -1,7 +1,7 @@
 -- The numbers that pass a test, as a list. Assumes nothing.
 use Rattle.std.proofs.Common.{◌≡◌, ℕ, zero, suc, ◌+◌, ◌<◌, ◌≤◌, Bool, true, false, cond, ◌&&◌, ◌||◌, eqb, ◌⊎◌, List, [], ◌∷◌, ◌++◌, sym, refl, ap, ◌∙◌, inl, inr, zero-add, add-one, arith}
 use Rattle.std.proofs.lemmas.Bool.{and_right, cases_eq, cases_lt, eq-eqb, ne_eqb, or_from}
-use Rattle.std.specs.List.{AllByRecursion as All}
+use Rattle.std.specs.List.{AllByRecursion}
 use Rattle.cores.specs.Naming.{member, Different, Names}
 use Rattle.levels.specs.Sums.{passing}
 use Rattle.run.proofs.Scan.{last_no, last_yes, lift}
@@ -84,13 +84,13 @@ names_passing n test none = (
 )
 
 -- All of them are below the end.
-below_next : (j m : ℕ) (us : List ℕ) (b : Bool) → j < m → All (λ i. i < m) us → All (λ i. i < m) (cond b (j ∷ us) us)
+below_next : (j m : ℕ) (us : List ℕ) (b : Bool) → j < m → AllByRecursion (λ i. i < m) us → AllByRecursion (λ i. i < m) (cond b (j ∷ us) us)
 below_next j m us true h so = (h, so)
 below_next j m us false h so = so
 
-below_from : (j n m : ℕ) (test : ℕ → Bool) → j + n ≤ m → All (λ i. i < m) (passing j n test)
+below_from : (j n m : ℕ) (test : ℕ → Bool) → j + n ≤ m → AllByRecursion (λ i. i < m) (passing j n test)
 below_from j zero m test h = tt
 below_from j (suc n) m test h = below_next j m (passing (suc j) n test) (test j) (omega arith) (below_from (suc j) n m test (omega arith))
 
-pub below_passing : (n : ℕ) (test : ℕ → Bool) → All (λ i. i < n) (passing 0 n test)
+pub below_passing : (n : ℕ) (test : ℕ → Bool) → AllByRecursion (λ i. i < n) (passing 0 n test)
 below_passing n test = below_from 0 n n test (omega arith)

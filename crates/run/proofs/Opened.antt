@@ -1,7 +1,7 @@
 -- The tables that are filled at an opening, and what they show. Assumes nothing.
 use Rattle.std.proofs.Common.{◌≡◌, ℕ, zero, suc, ◌+◌, ◌-◌, ◌*◌, ◌<◌, ◌≤◌, true, false, cond, not, ◌&&◌, eqb, leb, List, [], ◌∷◌, ◌++◌, map, length, get_or, take, drop, set, replicate, None, sum_by, Option, sym, refl, ap, ◌∙◌, subst, inl, inr, mul-pos, mul-zero, arith}
 use lib.Seq.{append_snoc, get_or_at, set_at}
-use Rattle.std.specs.List.{AllByRecursion as All}
+use Rattle.std.specs.List.{AllByRecursion}
 use Rattle.std.proofs.ByRecursion.{All-append, All-drop, All-from_get_or, All-get_or, All-map, All-weaker}
 use Rattle.std.proofs.lemmas.List.{get_or_append_left, get_or-append_right, get_or-drop, get_or-map, get_or-take, length-append, length-drop, length-map, length_push, length-take-le, map-append, take-append-drop, take-append-le, take_at}
 use Rattle.std.proofs.lemmas.List.Sums.{sum_by-append, sum_by-cons}
@@ -56,7 +56,7 @@ begun_from frames i (rate ∷ rates) front (x ∷ back) levels count same =
 abbrev Awaits : Task → Type 0
 Awaits t = t.phase ≡ Awaited
 
-all_awaited : (rates : List ℕ) (homes : List (Option ℕ)) → All Awaits (each unbegun_task rates homes)
+all_awaited : (rates : List ℕ) (homes : List (Option ℕ)) → AllByRecursion Awaits (each unbegun_task rates homes)
 all_awaited [] homes = tt
 all_awaited (rate ∷ rest) homes = (refl, all_awaited rest (drop 1 homes))
 
@@ -64,7 +64,7 @@ items_each : (rates : List ℕ) (homes : List (Option ℕ)) → map item_of (eac
 items_each [] homes = refl
 items_each (rate ∷ rest) homes = ap (λ xs. item_of (unbegun_task rate (get_or homes 0 None)) ∷ xs) (items_each rest (drop 1 homes))
 
-begun_items : (frames : ℕ) (ts : List Task) → All Awaits ts → map item_of (map (begun_to frames) ts) ≡ map (item_with_job frames) (map item_of ts)
+begun_items : (frames : ℕ) (ts : List Task) → AllByRecursion Awaits ts → map item_of (map (begun_to frames) ts) ≡ map (item_with_job frames) (map item_of ts)
 begun_items frames [] all = refl
 begun_items frames (t ∷ ts) all =
     let here : item_of (begun_to frames t) ≡ item_with_job frames (item_of t) = ap (λ ph. item_of (next_in ph t (Announce frames))) all.0 in
@@ -75,11 +75,11 @@ begun_deadline : (frames : ℕ) (t : Task) → Awaits t → (begun_to frames t).
 begun_deadline frames t awaits = ap (λ ph. (next_in ph t (Announce frames)).share.deadline) awaits
 
 -- every one has at least 1
-sum_of_some : {X : Type 0} (f : X → ℕ) (xs : List X) → All (λ x. 1 ≤ f x) xs → length xs ≤ sum_by f xs
+sum_of_some : {X : Type 0} (f : X → ℕ) (xs : List X) → AllByRecursion (λ x. 1 ≤ f x) xs → length xs ≤ sum_by f xs
 sum_of_some f [] all = omega arith
 sum_of_some f (x ∷ xs) all = omega (arith, all.0, sum_of_some f xs all.1, sum_by-cons f x xs)
 
-all_same : {X : Type 0} (P : X → Type 0) (n : ℕ) (x : X) → P x → All P (replicate n x)
+all_same : {X : Type 0} (P : X → Type 0) (n : ℕ) (x : X) → P x → AllByRecursion P (replicate n x)
 all_same P zero x h = tt
 all_same P (suc n) x h = (h, all_same P n x h)
 
@@ -163,7 +163,7 @@ module _ (p : Plan) (cores frames sheet : ℕ) (fits : Fits p cores frames sheet
   length_front : length levels_front ≡ p.depth
   length_front = length-map (servers_in (levels_in p)) level_table ∙ length_servers_in (levels_in p) ∙ length_levels_in p fits.small.levels_known
 
-  few_each : All (λ ss. length ss ≤ 31) (servers_in (levels_in p))
+  few_each : AllByRecursion (λ ss. length ss ≤ 31) (servers_in (levels_in p))
   few_each =
       All-from_get_or (λ ss. length ss ≤ 31) (servers_in (levels_in p)) []
       (λ k below.
@@ -171,7 +171,7 @@ module _ (p : Plan) (cores frames sheet : ℕ) (fits : Fits p cores frames sheet
       let same = planned_at p k deep (omega (arith, fits.small.levels_known)) in
       subst (λ ss. length ss ≤ 31) same (omega (arith, length_planned p fits.small k deep, fits.small.few_servers k deep)))
 
-  few_counts : All (λ l. l.count ≤ 31) levels_table
+  few_counts : AllByRecursion (λ l. l.count ≤ 31) levels_table
   few_counts =
       All-append (λ l. l.count ≤ 31) levels_front (drop (length levels_front) (replicate 5 (level_table [])))
       (All-map (λ l. l.count ≤ 31) level_table (servers_in (levels_in p)) few_each)
@@ -257,7 +257,7 @@ module _ (p : Plan) (cores frames sheet : ℕ) (fits : Fits p cores frames sheet
   jobs_few =
       let due_by : Task → ℕ = λ t. t.share.deadline in
       let idle = map (begun_to frames) (drop sheet planned) in
-      let each_some : All (λ t. 1 ≤ due_by t) idle =
+      let each_some : AllByRecursion (λ t. 1 ≤ due_by t) idle =
       All-map (λ t. 1 ≤ due_by t) (begun_to frames) (drop sheet planned)
       (All-weaker Awaits (λ t. 1 ≤ due_by (begun_to frames t)) (λ t awaits. omega (arith, begun_deadline frames t awaits, fits.a_frame)) (drop sheet planned)
       (All-drop Awaits sheet planned (all_awaited (rates_in p) (homes_in (levels_in p))))) in

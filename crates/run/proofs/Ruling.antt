@@ -1,6 +1,6 @@
 -- A granted tick keeps the law of histories. Assumes nothing.
 use Rattle.std.proofs.Common.{◌≡◌, ℕ, ◌<◌, ◌≤◌, List, length, take, sym, refl, ap, ◌∙◌, subst, arith}
-use Rattle.std.specs.List.{AllByRecursion as All}
+use Rattle.std.specs.List.{AllByRecursion}
 use Rattle.std.proofs.ByRecursion.{All-weaker}
 use Rattle.std.proofs.lemmas.Bool.{ltb-false}
 use Rattle.choosing.specs.Choosing.{Rule}
@@ -26,7 +26,7 @@ module _ (choose : Rule) (s : State) (kept : Kept s) (old new : List ℕ) (s' : 
   all_cores : limited s.cores ≡ s.cores
   all_cores = omega (arith, kept.numbers.0)
 
-  below : All (λ i. i < 80) (named_by choose s)
+  below : AllByRecursion (λ i. i < 80) (named_by choose s)
   below = All-weaker (λ i. i < s.count) (λ i. i < 80) (λ i h. omega (arith, kept.tables.0)) (named_by choose s) (below_passing s.count (running (setting_of choose s) (run_of s)))
 
   -- the core list names just the tasks that run, where there are as many as cores

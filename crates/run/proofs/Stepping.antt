@@ -1,7 +1,7 @@
 -- A tick as a whole: made ready, run, and one tick on. Assumes nothing.
 use Rattle.std.proofs.Common.{◌≡◌, ℕ, suc, ◌+◌, ◌*◌, ◌/◌, ◌%◌, ◌<◌, ◌≤◌, Bool, false, eqb, List, map, length, get_or, take, sym, refl, ap, ◌∙◌, subst, inl, inr, mul-le-mul, add-one, arith}
 use Rattle.std.proofs.lemmas.Bool.{cases_lt, cond-true, eq-eqb}
-use Rattle.std.specs.List.{AllByRecursion as All}
+use Rattle.std.specs.List.{AllByRecursion}
 use Rattle.choosing.specs.Choosing.{Rule}
 use Rattle.cores.specs.Naming.{Names}
 use Rattle.levels.specs.Renewing.{renew_levels}
@@ -48,8 +48,8 @@ module _ (rule : Rule) (e s : State) (bounds : Bounds e) (marks : List Bool) (ke
     pub listed_are : numbers ≡ passing 0 e.count (names rule e)
     listed_are = listed ∙ ap (λ x. passing 0 x.count (flags marks)) kept ∙ ap (passing 0 e.count) marked
 
-    pub below_are : All (λ i. i < e.count) numbers
-    below_are = subst (All (λ i. i < e.count)) (sym listed_are) (below_passing e.count (names rule e))
+    pub below_are : AllByRecursion (λ i. i < e.count) numbers
+    below_are = subst (AllByRecursion (λ i. i < e.count)) (sym listed_are) (below_passing e.count (names rule e))
 
     pub names_are : Names (names rule e) numbers
     names_are = subst (Names (names rule e)) (sym listed_are) (names_passing e.count (names rule e) none_past)

@@ -1,6 +1,6 @@
 -- What a frame start and a tick do to the tables, level by level; only contracts of private functions cite this.
 use Rattle.std.specs.Prelude.{◌≡◌, ℕ, zero, suc, ◌<◌, Bool, true, false, cond, List, [], ◌∷◌, Some, None, Option, slice_set}
-use Rattle.std.specs.List.{AllByRecursion as All}
+use Rattle.std.specs.List.{AllByRecursion}
 use Rattle.packing.specs.Packing.{at_home}
 use Rattle.choosing.specs.Choosing.{Rule}
 use Rattle.cores.specs.Naming.{Names}
@@ -89,7 +89,7 @@ pub record RanAll (rule : Rule) (entry exit : State) (numbers : List ℕ) : Type
   pub each : (i : ℕ) → task_at exit i ≡ tick_if (names rule entry i) (task_at entry i)
   pub listed : numbers ≡ passing 0 entry.count (names rule entry)
   pub exactly : Names (names rule entry) numbers
-  pub below : All (λ i. i < entry.count) numbers
+  pub below : AllByRecursion (λ i. i < entry.count) numbers
   pub kept : exit ≡ with_tables entry exit.tasks exit.levels
   pub bounds : Bounds exit
 
@@ -100,6 +100,6 @@ pub record GoneOn (rule : Rule) (entry exit : State) (numbers : List ℕ) : Type
   pub each : (i : ℕ) → task_at exit i ≡ tick_if (runs (always rule) (machine entry) (view entry) i) (task_at entry i)
   pub listed : numbers ≡ passing 0 entry.count (runs (always rule) (machine entry) (view entry))
   pub exactly : Names (runs (always rule) (machine entry) (view entry)) numbers
-  pub below : All (λ i. i < entry.count) numbers
+  pub below : AllByRecursion (λ i. i < entry.count) numbers
   pub kept : exit ≡ with_all entry (suc entry.tick) exit.tasks exit.levels
   pub bounds : Bounds exit

@@ -1,5 +1,5 @@
 use Rattle.std.proofs.Common.{◌≡◌, refl, subst, arith}
-use Rattle.std.specs.List.{AllByRecursion as All}
+use Rattle.std.specs.List.{AllByRecursion}
 use Rattle.std.proofs.lemmas.List.{take_all}
 use Rattle.std.proofs.ByRecursion.{All-get_or, All-more}
 use Rattle.std.proofs.lemmas.Bool.{false≢true}
@@ -17,4 +17,4 @@ loop-rate-preserved c =
 
 pub returns : goal.returns
 returns c =
-    ((λ _. subst (All (λ x. x ≡ c.args.unit)) (take_all c.loop-rate.rate-index c.args.rates.now c.loop-rate-test.false) c.loop-rate.invariant), (λ _. refl))
+    ((λ _. subst (AllByRecursion (λ x. x ≡ c.args.unit)) (take_all c.loop-rate.rate-index c.args.rates.now c.loop-rate-test.false) c.loop-rate.invariant), (λ _. refl))

@@ -1,5 +1,5 @@
 use Rattle.std.proofs.Common.{refl, subst}
-use Rattle.std.specs.List.{AllByRecursion as All}
+use Rattle.std.specs.List.{AllByRecursion}
 use Rattle.std.proofs.ByRecursion.{All-more}
 use Rattle.std.proofs.lemmas.List.{take_all}
 use Rattle.packing.specs.Packing.{Within}
@@ -10,4 +10,4 @@ loop-task-preserved c =
     All-more (Within c.args.unit) c.args.rates.now c.loop-task.task 0 c.loop-task-test.true c.loop-task.invariant (c.if-not-is_within.ensures.0 refl)
 
 pub returns : goal.returns
-returns c = subst (All (Within c.args.unit)) (take_all c.loop-task.task c.args.rates.now c.loop-task-test.false) c.loop-task.invariant
+returns c = subst (AllByRecursion (Within c.args.unit)) (take_all c.loop-task.task c.args.rates.now c.loop-task-test.false) c.loop-task.invariant

@@ -1,5 +1,5 @@
 use Rattle.std.proofs.Common.{◌<◌, ap, subst, arith, rules}
-use Rattle.std.specs.List.{AllByRecursion as All}
+use Rattle.std.specs.List.{AllByRecursion}
 use Rattle.cores.specs.Naming.{Names}
 use Rattle.run.specs.Views.{numbers_of}
 use Rattle.run.proofs.Stepping.{each_ticked, end_same, kept_is, listed_runs, machine_is, runs_are, short_run, tick_same, view_is}
@@ -32,7 +32,7 @@ returns g c =
         each = each_ticked rule e m x ready.kept ready.levels ran.kept ran.each;
         listed = listed_runs rule e m x ready.kept ready.levels ran.kept numbers ran.listed;
         exactly = subst (λ f. Names f numbers) (runs_are rule e m x ready.kept ready.levels ran.kept) ran.exactly;
-        below = subst (λ n. All (λ i. i < n) numbers) count ran.below;
+        below = subst (λ n. AllByRecursion (λ i. i < n) numbers) count ran.below;
         kept = kept_is rule e m x ready.kept ready.levels ran.kept;
         bounds = (b.0, b.1, b.2, b.3, b.4, b.5, b.6, b.7, b.8, omega (arith, tick, ends, c.requires.lasts), b.10);
       };

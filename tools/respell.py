@@ -12,7 +12,8 @@ import re
 import sys
 
 TOKEN = re.compile(r"[^\s(){}\[\];,.\"⌜⌝∥:|]+")
-WORD = re.compile(r"^[^\W\d][\w']*(-[\w'ℕ]+)+$")
+# a name with a dash, or a fact that port.py left with an underscore
+WORD = re.compile(r"^([^\W\d][\w']*(-[\w'ℕ]+)+|[A-Z][a-z]+(_[a-z]+)+)$")
 # what a file of proofs for one function is called
 GENERATED = ("Answers.antt", "Invariants.antt", "Choices.antt")
 
@@ -36,7 +37,7 @@ def tokens(text):
 def respelled(name):
     if name in TAKEN:
         return TAKEN[name]
-    parts = name.split("-")
+    parts = re.split("[-_]" if name[0].isupper() else "-", name)
     if name[0].isupper():
         return "".join(p[:1].upper() + p[1:] for p in parts)
     return "_".join(parts)

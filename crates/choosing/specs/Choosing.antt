@@ -27,6 +27,6 @@ Lawful rule = (s : Share) (cs : List Share) → Names cs (KeepsBalance s cs) (ru
 
 -- A rule that goes on with the client that it named: after the tick that this client got, it is named again, if it still has
 -- left and no client was renewed.
-abbrev pub Goes_on : Rule → Type 0
-Goes_on rule =
+abbrev pub GoesOn : Rule → Type 0
+GoesOn rule =
     (s : Share) (cs : List Share) (k : ℕ) → rule s cs ≡ Some k → 1 ≤ (at (spent_at cs k) k).left → rule (spent s) (spent_at cs k) ≡ Some k

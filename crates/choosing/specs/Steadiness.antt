@@ -4,7 +4,7 @@ use Rattle.std.proofs.Common.{sym, ap₂, ◌∙◌, arith, length-set}
 use Rattle.std.proofs.lemmas.List.MinMax.{IsStrictWeakOrder-by_number}
 use Rattle.choosing.specs.declared.share.Share.{Share}
 use Rattle.choosing.specs.Balance.{at, spent_at}
-use Rattle.choosing.specs.Choosing.{Goes_on}
+use Rattle.choosing.specs.Choosing.{GoesOn}
 use Rattle.choosing.specs.Rules.{sooner, earliest_deadline}
 use Rattle.choosing.specs.Balances.{deadline_spent, left_spent}
 use Rattle.choosing.specs.Bests.{Leads, best_is_first}
@@ -18,7 +18,7 @@ spent_leads cs j b more = record {
   first = λ k before has. ap₂ nat_lt (deadline_spent cs j j) (deadline_spent cs j k) ∙ b.first k before (omega (arith, left_spent cs j k));
 }
 
-pub earliest_deadline_goes_on : Goes_on earliest_deadline
+pub earliest_deadline_goes_on : GoesOn earliest_deadline
 earliest_deadline_goes_on s cs j e more =
     let told = named_leads (IsStrictWeakOrder-by_number (λ (c : Share). c.deadline)) cs j e in
     let few : length (spent_at cs j) ≤ 80 = rw length-set told.0 in

@@ -1,7 +1,7 @@
 //! What a choosing rule is.
 ghost use Rattle.std.specs.Prelude.{◌≡◌, ℕ, List, Option};
 ghost use Rattle.choosing.specs.declared.share.Share.{Share};
-ghost use Rattle.choosing.specs.Choosing.{Lawful, Goes_on};
+ghost use Rattle.choosing.specs.Choosing.{Lawful, GoesOn};
 
 use crate::share::Share;
 
@@ -20,5 +20,5 @@ pub trait Choosing {
 
 /// A choosing rule that goes on with the client that it named, while that client has left and no client is renewed.
 pub trait Steady: Choosing {
-    ghost steady: { (rule : Self) → Goes_on (Self.Choosing.chosen rule) };
+    ghost steady: { (rule : Self) → GoesOn (Self.Choosing.chosen rule) };
 }

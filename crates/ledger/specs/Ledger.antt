@@ -1,7 +1,7 @@
 -- The ledger of a run: kept from the opening's arguments, the calls and the tasks that granted ticks named, and from nothing else. A reader of the contracts has to believe this file.
 use Rattle.std.specs.Prelude.{◌≡◌, ℕ, suc, ◌+◌, ◌-◌, ◌*◌, ◌<◌, ◌≤◌, cond, not, ◌&&◌, List, [], ◌∷◌, ◌++◌, length, is_some, Some, None, filter, Option, ◌==◌, nat_lt}
 use Rattle.std.specs.List.{AllByRecursion}
-use Rattle.choosing.specs.Choosing.{Goes_on}
+use Rattle.choosing.specs.Choosing.{GoesOn}
 use Rattle.cores.specs.Naming.{member, Different}
 use Rattle.ledger.specs.Openings.{Opening, idle_rates, rates, rate, reductions}
 use Rattle.ledger.specs.Calls.{Call, announce, tick, ask, Answer, refused, refused_for, done, named, number, truth, History}
@@ -151,7 +151,7 @@ pub record Served (o : Opening) (time : ℕ) (job : Job) : Type 0 where
 pub record Kept (o : Opening) (l : Ledger) : Type 0 where
   pub served : AllByRecursion (Served o l.time) l.jobs
   pub few_reductions : reductions o ≤ 4
-  pub few_preemptions : Goes_on o.choose → l.preemptions ≤ (2 * reductions o + 1) * length l.jobs
+  pub few_preemptions : GoesOn o.choose → l.preemptions ≤ (2 * reductions o + 1) * length l.jobs
 
 -- A history conforms: all the way through it the laws are kept, and each answer is one that the ledger gives.
 --

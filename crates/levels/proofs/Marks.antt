@@ -4,7 +4,7 @@ use Rattle.std.proofs.lemmas.List.{get_or-set_same, get_or_past}
 use Rattle.std.proofs.lemmas.Bool.{cases_lt, lt-ltb, ltb-true, and_parts, both_ways}
 use Rattle.choosing.specs.declared.share.Share.{Share}
 use Rattle.choosing.specs.Balance.{nothing, at, spent, spent_at}
-use Rattle.choosing.specs.Choosing.{Rule, Lawful, Goes_on}
+use Rattle.choosing.specs.Choosing.{Rule, Lawful, GoesOn}
 use Rattle.levels.specs.declared.item.Item.{Item}
 use Rattle.levels.specs.declared.server.Server.{Server}
 use Rattle.levels.specs.Sums.{bit, count}
@@ -130,7 +130,7 @@ same_deadline : (b : Bool) (s : Server) → (spend_server b s).share.deadline �
 same_deadline true s = refl
 same_deadline false s = refl
 
-module _ (rule : Rule) (law : Lawful rule) (goes_on_law : Goes_on rule) (unit frames t : ℕ) where
+module _ (rule : Rule) (law : Lawful rule) (goes_on_law : GoesOn rule) (unit frames t : ℕ) where
   module _ (items : List Item) (ss : List Server) (above : List (List Server)) (s : SoundLevels unit frames t items (ss ∷ above))
       (f : Fresh unit t (ss ∷ above))
       (up : Ticked (always rule) unit frames t (duals unit ss) above) where

@@ -4,7 +4,7 @@ use Rattle.std.specs.List.{AllByRecursion}
 use Rattle.std.proofs.lemmas.List.{get_or-set_other}
 use Rattle.choosing.specs.declared.share.Share.{Share}
 use Rattle.choosing.specs.Balance.{rates}
-use Rattle.choosing.specs.Choosing.{Rule, Lawful, Goes_on}
+use Rattle.choosing.specs.Choosing.{Rule, Lawful, GoesOn}
 use Rattle.levels.specs.declared.item.Item.{Item}
 use Rattle.levels.specs.declared.server.Server.{Server}
 use Rattle.levels.specs.Sums.{bit, count}
@@ -151,7 +151,7 @@ twice l j = omega (arith, add-mul (2 * (l - 1) + 1) 1 j, mul-le-mul_right {m = 2
 once : (l j : ℕ) → l * j ≤ (2 * (l - 1) + 1) * j
 once l j = mul-le-mul_right {m = l} {n = 2 * (l - 1) + 1} j (omega arith)
 
-module _ (rule : Rule) (law : Lawful rule) (goes_on_law : Goes_on rule) (m : Machine) (st : State) (g : Sound m st) (w : Goes m st) where
+module _ (rule : Rule) (law : Lawful rule) (goes_on_law : GoesOn rule) (m : Machine) (st : State) (g : Sound m st) (w : Goes m st) where
   abbrev unit : ℕ
   unit = m.unit
 
@@ -235,7 +235,7 @@ forget law (opens o) = Reaching.opens o
 forget law (announces c i d a) = Reaching.announces (forget law c) i d a
 forget {rule} law (ticks c w) = Reaching.ticks (forget law c) w (always rule) (λ k j. law)
 
-carried : (rule : Rule) → Lawful rule → Goes_on rule → (m : Machine) {st : State} {before : ℕ → Bool} {jobs preemptions : ℕ}
+carried : (rule : Rule) → Lawful rule → GoesOn rule → (m : Machine) {st : State} {before : ℕ → Bool} {jobs preemptions : ℕ}
     → Counted rule m st before jobs preemptions → Carried rule m st before jobs preemptions
 carried rule law goes_on_law m (opens {st} o) =
     let (marks, no_wait) = opening_marked rule m.unit m.frames st.tasks st.levels o.planned o.unbegun_tasks in

@@ -4,7 +4,7 @@ use Rattle.packing.specs.Packing.{Packing, at_home}
 use Rattle.packing.specs.Plan.{IsPlan, FullCores}
 use Rattle.packing.specs.Fitting.{Rule as Fitting, Lawful as LawfulFitting}
 use Rattle.choosing.specs.Balance.{Balanced}
-use Rattle.choosing.specs.Choosing.{Rule, Lawful, Goes_on}
+use Rattle.choosing.specs.Choosing.{Rule, Lawful, GoesOn}
 use Rattle.choosing.specs.Rules.{earliest_deadline}
 use Rattle.levels.specs.declared.item.Item.{Item}
 use Rattle.levels.specs.declared.server.Server.{Server}
@@ -106,7 +106,7 @@ EveryJobIsServed =
 -- The reductions are the levels less one.
 abbrev pub PreemptionsAreFew : Type 0
 PreemptionsAreFew =
-    (rule : Rule) → Lawful rule → Goes_on rule → (m : Machine) (st : State) (before : ℕ → Bool) (jobs preemptions : ℕ)
+    (rule : Rule) → Lawful rule → GoesOn rule → (m : Machine) (st : State) (before : ℕ → Bool) (jobs preemptions : ℕ)
     → Counted rule m st before jobs preemptions → preemptions ≤ (2 * (length st.levels - 1) + 1) * jobs
 
 -- ---- a run there is

@@ -1,11 +1,9 @@
 -- How the fields of a line write the words and numbers of a call. A reader of the contracts has to believe this file.
-use Rattle.std.specs.Prelude.{◌≡◌, ℕ, ◌^◌, ◌<◌, ◌≤◌, List, [], ◌∷◌, Some, None, codes, decimal, Option, ◌≢◌}
+use Rattle.std.specs.Prelude.{◌≡◌, ℕ, ◌≤◌, List, Some, None, codes, decimal, Option, ◌≢◌}
 use Rattle.trials.specs.declared.call.Fit.{Fit}
 use Rattle.trials.specs.declared.call.Fit.TheVariants.{First, Best, Worst}
 use Rattle.trials.specs.declared.call.Choose.{Choose}
 use Rattle.trials.specs.declared.call.Choose.TheVariants.{Earliest, Slack}
-use Rattle.trials.specs.declared.call.Question.{Question}
-use Rattle.trials.specs.declared.call.Question.TheVariants.{Tick, Reductions, Jobs, Preemptions, Left, Deadline, Awaited}
 
 -- What is read from a text is the value that is written so; there is none exactly if no value that is allowed is written so.
 abbrev pub Reads : {X T : Type 0} → (X → Type 0) → (X → T) → T → Option X → Type 0

@@ -1,4 +1,4 @@
-use Rattle.std.proofs.Common.{◌≡◌, ℕ, ◌≤◌, List, length, get_or, arith}
+use Rattle.std.proofs.Common.{◌≡◌, ◌≤◌, length, get_or}
 use Rattle.trials.proofs.Numbers.{signed_is_none, padded_is_none, empty_is_unsigned, parsed}
 use Rattle.trials.proofs.call.number.Goals as goal
 use Rattle.trials.proofs.call.number.Goals.{else-bytes-gt0-via-then-bytes-gt0+else-bytes-eq43, else-bytes-gt0-via-else-bytes-gt0, else-bytes-gt1-via-then-bytes-gt1+else-bytes-eq48, else-bytes-gt1-via-else-bytes-gt1}

@@ -1,10 +1,11 @@
 #!/usr/bin/env python3
 """Gives the repository's own definitions, fields, lemmas and locals the spelling of its Rust: types in camel case, all else in
-snake case. Names of the library and names that the prover makes (goals, steps, fields of steps) stay as they are.
+snake case. Names of the library and names that the prover makes (goals, steps, fields of steps) stay as they are, and so do
+comments and must-fail edits.
 
 usage: python3 tools/respell.py [--dry]        at the top of the repository
 
-Says which names fall together with another one, and then writes nothing.
+Says which names fall together, and which get a spelling that stands already. With --dry it writes nothing.
 """
 import collections
 import glob
@@ -15,7 +16,7 @@ TOKEN = re.compile(r"[^\s(){}\[\];,.\"⌜⌝∥:|]+")
 # a name with a dash, or a fact that port.py left with an underscore
 WORD = re.compile(r"^([^\W\d][\w']*(-[\w'ℕ]+)+|[A-Z][a-z]+(_[a-z]+)+)$")
 # what a file of proofs for one function is called
-GENERATED = ("Answers.antt", "Invariants.antt", "Choices.antt")
+GENERATED = ("Answers.antt", "Invariants.antt")
 
 # Facts that would have a struct's name.
 TAKEN = {n: "Is" + n.title().replace("-", "") for n in ("First-fit", "Best-fit", "Worst-fit", "Earliest-deadline", "Least-slack")}
@@ -37,6 +38,7 @@ def tokens(text):
 def respelled(name):
     if name in TAKEN:
         return TAKEN[name]
+    name = name.replace("getD", "get_or")
     parts = re.split("[-_]" if name[0].isupper() else "-", name)
     if name[0].isupper():
         return "".join(p[:1].upper() + p[1:] for p in parts)

@@ -41,7 +41,7 @@ rate o i = slice_index (rates o) i
 abbrev pub reductions : Opening → ℕ
 reductions o = length o.plan - 1
 
--- An opening is granted: no row of the table refuses its load, both rules keep what they owe, and the plan is the plan of
+-- An opening is granted: no row of the table refuses it, both rules keep what they owe, and the plan is the plan of
 -- all its tasks.
 pub record Granted (o : Opening) : Type 0 where
   pub allowed : OpeningAllowed o.cores o.unit o.frames o.sheet

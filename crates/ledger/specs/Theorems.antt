@@ -14,7 +14,7 @@ use Rattle.ledger.specs.Worked.{three_loops, one_loop, calls_of, worked, worked_
 
 -- ---- openings
 
--- Every load that no row refuses is granted with any two lawful rules, over one plan and no other.
+-- Every load, with its frames, that no row refuses is granted with any two lawful rules, over one plan and no other.
 abbrev pub EveryAllowedLoadOpens : Type 0
 EveryAllowedLoadOpens =
     (cores unit frames : ℕ) (sheet : List ℕ) → OpeningAllowed cores unit frames sheet → (fit : Fitting) → LawfulFitting fit → (choose : Choosing) → LawfulChoosing choose
@@ -80,7 +80,7 @@ EveryCallHasOneAnswer =
 abbrev pub EveryListOfCallsConforms : Type 0
 EveryListOfCallsConforms = (o : Opening) → Granted o → (calls : List Call) → Conforms o (fresh o) (history (setting o) (opened o) calls)
 
--- Of two rules: every load that the table allows opens with them, over some plan, and every history of its calls conforms.
+-- Of two rules: every load, with its frames, that the table allows opens with them, over some plan, and every history of its calls conforms.
 abbrev pub RunsConform : Fitting → Choosing → Type 0
 RunsConform fit choose =
     (cores unit frames : ℕ) (sheet : List ℕ) → OpeningAllowed cores unit frames sheet

@@ -5,7 +5,7 @@ ghost use Rattle.ledger.specs.Theorems.{EveryAllowedLoadOpens, EveryOpeningIsFre
 use choosing::Choosing;
 use packing::Fitting;
 
-/// Every load that no row refuses is granted with any two lawful rules, over one plan and no other.
+/// Every load, with its frames, that no row refuses is granted with any two lawful rules, over one plan and no other.
 pub fn every_allowed_load_opens()
     ensures { EveryAllowedLoadOpens }
 {}
@@ -40,7 +40,7 @@ pub fn every_list_of_calls_conforms()
     ensures { EveryListOfCallsConforms }
 {}
 
-/// For any two types that keep the laws of their traits: every load that the table allows opens, and every history of its
+/// For any two types that keep the laws of their traits: every load, with its frames, that the table allows opens, and every history of its
 /// calls conforms.
 pub fn runs_conform<F: Fitting, C: Choosing>(fit: &F, choose: &C)
     ensures { RunsConform (F.fits fit.now) (C.chosen choose.now) }

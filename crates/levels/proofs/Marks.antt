@@ -26,7 +26,7 @@ abbrev pub would : Rule → List Item → List Server → ℕ → Option ℕ
 would rule items ss q = rule (server_at ss q).share (clients items q)
 
 -- One level. `going`: the items that ran in the last tick and have left; `new`: those with a new job since then;
--- `up` and `up-new`: the same of the duals.
+-- `up` and `up_new`: the same of the duals.
 pub record Level (rule : Rule) (frames : ℕ) (items : List Item) (ss : List Server) (going new up up_new : ℕ → Bool) : Type 0 where
   pub alone : (q : ℕ) → tally items q going ≤ 1
   pub apart : (i q : ℕ) → going i ≡ true → (item_at items i).home ≡ Some q → up q ≡ false

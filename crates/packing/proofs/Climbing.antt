@@ -7,9 +7,9 @@ use Rattle.packing.specs.Plan.{onward, climb}
 use Rattle.packing.specs.Tables.{over, packing_in}
 use Rattle.packing.proofs.Over.{over_push}
 
-pub getD_take_past : {X : Type 0} (n : ℕ) (xs : List X) (i : ℕ) (d : X) → (n ≤ i) ⊎ (length xs ≤ i) → get_or (take n xs) i d ≡ d
-getD_take_past n xs i d (inl past) = get_or_past (take n xs) i d (simp length-take (omega arith))
-getD_take_past n xs i d (inr past) = get_or_past (take n xs) i d (simp length-take (omega arith))
+pub get_or_take_past : {X : Type 0} (n : ℕ) (xs : List X) (i : ℕ) (d : X) → (n ≤ i) ⊎ (length xs ≤ i) → get_or (take n xs) i d ≡ d
+get_or_take_past n xs i d (inl past) = get_or_past (take n xs) i d (simp length-take (omega arith))
+get_or_take_past n xs i d (inr past) = get_or_past (take n xs) i d (simp length-take (omega arith))
 
 abbrev no_packing : Packing
 no_packing = record { homes = []; rates = [] }

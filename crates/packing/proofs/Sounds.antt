@@ -12,8 +12,8 @@ use Rattle.packing.proofs.Laws.{named_room, none_room}
 
 -- ---- a server's used after an item
 
-pub getD_set_add : (used : List ℕ) (k x j : ℕ) → k < length used → get_or (set used k (get_or used k 0 + x)) j 0 ≡ get_or used j 0 + cond (eqb k j) x 0
-getD_set_add used k x j h =
+pub get_or_set_add : (used : List ℕ) (k x j : ℕ) → k < length used → get_or (set used k (get_or used k 0 + x)) j 0 ≡ get_or used j 0 + cond (eqb k j) x 0
+get_or_set_add used k x j h =
     ⊎_elim
     (λ same.
     let test : cond (eqb k j) x 0 ≡ x = cond-true _ _ _ (eq-eqb _ _ same) in
@@ -27,8 +27,8 @@ getD_set_add used k x j h =
     omega arith)
     (cases_eq k j)
 
-pub getD_push_add : (used : List ℕ) (x j : ℕ) → get_or (used ++ x ∷ []) j 0 ≡ get_or used j 0 + cond (eqb (length used) j) x 0
-getD_push_add used x j =
+pub get_or_push_add : (used : List ℕ) (x j : ℕ) → get_or (used ++ x ∷ []) j 0 ≡ get_or used j 0 + cond (eqb (length used) j) x 0
+get_or_push_add used x j =
     ⊎_elim
     (λ same.
     let test : cond (eqb (length used) j) x 0 ≡ x = cond-true _ _ _ (eq-eqb _ _ same) in
@@ -76,8 +76,8 @@ module _ (rule : Rule) (lawful : Lawful rule) (unit : ℕ) where
   step_load used x j =
       one_item rule unit used x (λ ps h. get_or ps j 0 ≡ get_or used j 0 + cond (at_home h j) x 0)
       (λ _. omega arith)
-      (λ k _ e. getD_set_add used k x j (named_room rule lawful used unit x k e).0)
-      (λ _ _. getD_push_add used x j)
+      (λ k _ e. get_or_set_add used k x j (named_room rule lawful used unit x k e).0)
+      (λ _ _. get_or_push_add used x j)
 
   filled_load : (used xs : List ℕ) (j : ℕ) → get_or (filled rule unit used xs) j 0 ≡ get_or used j 0 + sum (clients (settled rule unit used xs) xs j)
   filled_load used [] j = omega arith
@@ -108,7 +108,7 @@ module _ (rule : Rule) (lawful : Lawful rule) (unit : ℕ) where
       (λ k _ e i j below len.
       let room = named_room rule lawful used unit x k e in
       let same = length-set used k (get_or used k 0 + x) in
-      omega (arith, before i j below (omega arith), getD_set_add used k x i room.0, getD_set_add used k x j room.0))
+      omega (arith, before i j below (omega arith), get_or_set_add used k x i room.0, get_or_set_add used k x j room.0))
       (λ _ e i j below len.
       ⊎_elim
       (λ last.
@@ -118,7 +118,7 @@ module _ (rule : Rule) (lawful : Lawful rule) (unit : ℕ) where
       omega arith)
       (λ other.
       let old = before i j below (omega (arith, length_push used x)) in
-      omega (arith, getD_push_add used x i, getD_push_add used x j))
+      omega (arith, get_or_push_add used x i, get_or_push_add used x j))
       (cases_eq (length used) j))
 
   filled_crowded : (used xs : List ℕ) → Crowded unit used → Crowded unit (filled rule unit used xs)

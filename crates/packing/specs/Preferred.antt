@@ -164,12 +164,12 @@ preferred_lawful p used unit rate = names p used unit rate (λ _. Unit {0}) (λ 
 pub first_fit_lawful : Lawful (preferred Earliest)
 first_fit_lawful = preferred_lawful Earliest
 
-pub first_fit : (used : List ℕ) (unit rate : ℕ) → IsFirstFit used unit rate (preferred Earliest used unit rate)
-first_fit used unit rate =
+pub first_fit_names : (used : List ℕ) (unit rate : ℕ) → IsFirstFit used unit rate (preferred Earliest used unit rate)
+first_fit_names used unit rate =
     names Earliest used unit rate _ (λ j b k room. ⊎_elim (λ before. absurd (b.first k before room)) (λ (after : j ≤ k). after) (cases_lt k j))
 
-pub best_fit : (used : List ℕ) (unit rate : ℕ) → IsBestFit used unit rate (preferred Fullest used unit rate)
-best_fit used unit rate =
+pub best_fit_names : (used : List ℕ) (unit rate : ℕ) → IsBestFit used unit rate (preferred Fullest used unit rate)
+best_fit_names used unit rate =
     names Fullest used unit rate _ (λ j b k room.
     let here = b.room.1 in
     let holds = b.best k room.0 room in
@@ -179,8 +179,8 @@ best_fit used unit rate =
     ⊎_elim (λ same. inr (omega (arith, same), after)) (λ other. inl (omega arith)) (cases_eq (slice_index used j) (slice_index used k)))
     (cases_lt k j))
 
-pub worst_fit : (used : List ℕ) (unit rate : ℕ) → IsWorstFit used unit rate (preferred Emptiest used unit rate)
-worst_fit used unit rate =
+pub worst_fit_names : (used : List ℕ) (unit rate : ℕ) → IsWorstFit used unit rate (preferred Emptiest used unit rate)
+worst_fit_names used unit rate =
     names Emptiest used unit rate _ (λ j b k room.
     let here = b.room.1 in
     let holds = b.best k room.0 room in

@@ -13,7 +13,7 @@ use Rattle.run.specs.Views.{flags, level_servers, levels_of, tasks_of}
 use Rattle.run.specs.declared.state.Level.{Level}
 use Rattle.run.specs.declared.state.State.{State}
 use Rattle.run.proofs.Levelled.{packed_above, packed_same, view_all, view_drop, view_set_drop, views}
-use Rattle.run.proofs.Tables.{getD_blank}
+use Rattle.run.proofs.Tables.{get_or_blank}
 
 -- The levels from k on have run, and those below are as they were. `marks` are the items of level k that are named.
 pub record Falling (rule : Rule) (e s : State) (k : ℕ) (marks : List Bool) : Type 0 where
@@ -34,7 +34,7 @@ module _ (rule : Rule) (e : State) where
         size = refl;
         low = λ j h. refl;
         high = none ∙ ap (spend_levels (always rule) e.unit) (sym none);
-        marked = λ i. getD_blank false 80 i ∙ ap (λ ls. named (always rule) e.unit (items_at e e.depth) ls i) (sym none);
+        marked = λ i. get_or_blank false 80 i ∙ ap (λ ls. named (always rule) e.unit (items_at e e.depth) ls i) (sym none);
       }
 
   module _ (s : State) (k : ℕ) (marks : List Bool) (within : k < e.depth) (few : e.depth ≤ length e.levels) (so : Falling rule e s (suc k) marks) where

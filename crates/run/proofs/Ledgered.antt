@@ -17,7 +17,7 @@ use Rattle.run.specs.Keeping.{Phased, DeadlinesWithin, FewJobs, Kept, distinct_b
 use Rattle.run.specs.Opened.{begin_idle, Opens, NeverOpened}
 use Rattle.run.specs.Runs.{run_of, setting_of, OpenedRun, BlankRun}
 use Rattle.run.specs.Views.{numbers_of}
-use Rattle.run.proofs.Tables.{getD_blank}
+use Rattle.run.proofs.Tables.{get_or_blank}
 
 -- idle tasks begin their jobs: the state and the count of jobs apart
 begun_apart : (frames i : ℕ) (rates : List ℕ) (st : State) (jobs preemptions : ℕ) (before : ℕ → Bool)
@@ -46,7 +46,7 @@ is_opened fit cores unit frames sheet s choose opens =
 -- ---- what a run without ticks carries
 
 none_on : (n c t : ℕ) → is_task (get_or (replicate n None) c None) t ≡ false
-none_on n c t = ap (λ x. is_task x t) (getD_blank None n c)
+none_on n c t = ap (λ x. is_task x t) (get_or_blank None n c)
 
 pub kept_unticked : (s : Tables) → Bounds s → Phased s → DeadlinesWithin s → FewJobs s → s.preemptions ≡ 0 → s.placing ≡ blank → s.unfinished.count ≡ 0 → Kept s
 kept_unticked s b phased within jobs unpreempted unplaced none = record {

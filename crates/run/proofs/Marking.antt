@@ -8,7 +8,7 @@ use Rattle.levels.specs.declared.item.Item.{Item}
 use Rattle.levels.specs.declared.server.Server.{Server}
 use Rattle.run.specs.Turns.{Placed, marked, place_of, places_from}
 use Rattle.run.specs.Views.{flags}
-use Rattle.run.proofs.Tables.{getD_blank}
+use Rattle.run.proofs.Tables.{get_or_blank}
 
 -- ---- nothing past the items
 
@@ -169,7 +169,7 @@ picked_none p none (x ∷ xs) (suc i) =
 pub marking_none : (p : ℕ → Option ℕ) (xs : List Item) → Marking p xs (replicate 80 false) 0
 marking_none p xs = record {
   long = refl;
-  done = λ i. getD_blank false 80 i ∙ sym (picked_none (up_to 0 p) (λ q. cond-false (ltb q 0) (p q) None (le-ltb q 0 (omega arith))) xs i);
+  done = λ i. get_or_blank false 80 i ∙ sym (picked_none (up_to 0 p) (λ q. cond-false (ltb q 0) (p q) None (le-ltb q 0 (omega arith))) xs i);
 }
 
 pub marking_more : (p : ℕ → Option ℕ) (xs : List Item) (marks new : List Bool) (j : ℕ) (o : Option ℕ) → Marking p xs marks j → o ≡ place_of (p j) (places_from 0 xs j) → Placed o → new ≡ marked o marks → Marking p xs new (j + 1)

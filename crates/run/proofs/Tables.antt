@@ -41,7 +41,7 @@ changed_all d f old new ys n i h k so long at =
     (λ q l. let low : q < n = omega arith in get_or-take n new q d low ∙ so.done q (omega arith) ∙ ap (f q) (sym (get_or-take n old q d low)) ∙ sym (at q (omega arith)))
 
 -- A table of one value.
-pub getD_blank : {X : Type 0} (d : X) (n q : ℕ) → get_or (replicate n d) q d ≡ d
-getD_blank d zero q = refl
-getD_blank d (suc n) zero = refl
-getD_blank d (suc n) (suc q) = getD_blank d n q
+pub get_or_blank : {X : Type 0} (d : X) (n q : ℕ) → get_or (replicate n d) q d ≡ d
+get_or_blank d zero q = refl
+get_or_blank d (suc n) zero = refl
+get_or_blank d (suc n) (suc q) = get_or_blank d n q

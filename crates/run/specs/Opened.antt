@@ -115,7 +115,7 @@ pub record Filled (p : Plan) (cores frames sheet : ℕ) (s : State) : Type 0 whe
   pub few_jobs : FewJobs s
   pub bounds : Bounds s
 
--- An allowed load, and the tables of its run over the plan of its tasks.
+-- An allowed opening, and the tables of its run over the plan of its tasks.
 pub record Opens (rule : Rule) (cores unit frames : ℕ) (sheet : List ℕ) (s : State) : Type 0 where
   pub allowed : OpeningAllowed cores unit frames sheet
   pub plan : OneSmallPlan rule unit cores (all_tasks cores unit sheet)
@@ -132,7 +132,7 @@ pub record Opens (rule : Rule) (cores unit frames : ℕ) (sheet : List ℕ) (s :
   pub few_jobs : FewJobs s
   pub bounds : Bounds s
 
--- The load is refused, by the row that counts, or its run is opened.
+-- The opening is refused, by the row that counts, or its run is opened.
 abbrev pub Opened : Rule → ℕ → ℕ → ℕ → List ℕ → Result State OpeningRefusal → Type 0
 Opened rule cores unit frames sheet (Err e) = FirstOfOpening cores unit frames sheet e
 Opened rule cores unit frames sheet (Ok s) = Opens rule cores unit frames sheet s

@@ -87,7 +87,7 @@ pub record Played (fit : Fitting) (choose : Rule) (cores unit frames : ℕ) (she
   pub conforms : Conforms (opening_of cores unit frames sheet fit choose opened.plan.levels) (fresh (opening_of cores unit frames sheet fit choose opened.plan.levels)) (history_of (take n calls) (take n new))
   pub behind : drop n new ≡ drop n old
 
--- The load is refused, by the first row that holds, and the answers are as found; or the calls were put.
+-- The opening is refused, by the first row that holds, and the answers are as found; or the calls were put.
 abbrev pub Replayed : Fitting → Rule → ℕ → ℕ → ℕ → List ℕ → List Call → List Answer → List Answer → Result ℕ OpeningRefusal → Type 0
 Replayed fit choose cores unit frames sheet calls old new (Err e) = FirstOfOpening cores unit frames sheet e × (new ≡ old)
 Replayed fit choose cores unit frames sheet calls old new (Ok n) = Played fit choose cores unit frames sheet calls old new n

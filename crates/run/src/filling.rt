@@ -144,7 +144,7 @@ pub(crate) fn filled(plan: &Plan, cores: u32, frames: u32, sheet: usize) -> Stat
     }
 }
 
-/// The tables of a run of tasks of these rates, or the refusal of the load.
+/// The tables of a run of tasks of these rates, or the refusal of the opening.
 pub(crate) fn open_tables<F: Fitting>(
     rule: &F,
     cores: u32,

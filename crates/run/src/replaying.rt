@@ -123,7 +123,7 @@ fn play<C: Choosing>(run: &mut Run<C>, calls: &[Call], answers: &mut [Answer]) -
 }
 
 /// Opens a run of a load under a fitting and a choosing rule and puts calls to it, one after the other, as long as there is
-/// room for their answers. Answers how many were put. A refused load leaves the answers as they are.
+/// room for their answers. Answers how many were put. A refused opening leaves the answers as they are.
 pub fn replay<F: Fitting, C: Choosing + Drop>(
     fitting: &F,
     rule: C,

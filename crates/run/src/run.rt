@@ -43,8 +43,8 @@ impl<C: Choosing> Run<C> {
         }
     }
 
-    /// Opens the run of a load under a fitting rule: so many cores, parts in one whole core, frames, and the rate of each task.
-    /// A refused load leaves the run as it is.
+    /// Opens a run under a fitting rule: so many cores, parts in one whole core, frames, and the rate of each task.
+    /// A refused opening leaves the run as it is.
     pub fn open<F: Fitting>(
         &mut self,
         fitting: &F,

@@ -1,6 +1,6 @@
 -- The faults that a sheet can have, which of them is told, and what a sheet without any holds. A reader of the contracts has to
 -- believe this file.
-use Rattle.std.specs.Prelude.{◌≡◌, ℕ, ◌+◌, ◌-◌, ◌<◌, ◌≤◌, Bool, true, cond, ◌≢◌, ◌⊎◌, List, [], ◌∷◌, length, get_or, take, drop, replicate, Ok, Err, codes, Result, ◌==◌, slice_index, slice_index_or}
+use Rattle.std.specs.Prelude.{◌≡◌, ℕ, ◌+◌, ◌-◌, ◌<◌, ◌≤◌, Bool, true, cond, ◌≢◌, ◌⊎◌, List, [], ◌∷◌, length, take, drop, replicate, Ok, Err, codes, Result, ◌==◌, slice_index, slice_index_or}
 use Rattle.sheet.specs.Forms.{is_word, is_number, is_period, is_name, value}
 use Rattle.sheet.specs.Parts.{lines, fields}
 use Rattle.sheet.specs.Reading.{blank, name_of}
@@ -47,7 +47,7 @@ forms k =
 
 -- A field passes form i of a list. Nothing is asked of a field that no form is for.
 abbrev pub passes : List (List ℕ → Bool) → ℕ → List ℕ → Bool
-passes fs i f = get_or fs i (λ _. true) f
+passes fs i f = slice_index_or fs i (λ _. true) f
 
 -- Line k is there, and is not the first.
 abbrev pub There : List ℕ → ℕ → Type 0

@@ -33,7 +33,7 @@ pub(crate) enum Question {
     Awaited(usize),
 }
 
-/// A load: so many cores, parts in one whole core, frames, and the rate of each task.
+/// A load and its frames: so many cores, parts in one whole core, frames, and the rate of each task.
 #[derive(Drop)]
 pub(crate) struct Load {
     pub cores: u32,

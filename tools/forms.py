@@ -94,7 +94,7 @@ def main():
         return [f"{short(p)}:{n}: {l.strip()}" for p, t in texts.items() for n, l in enumerate(t.split("\n"), 1) if re.search(pattern, l) and not l.strip().startswith(("//", "ghost use", "use ", "pub use"))]
 
     show("1a functions that answer a refusal as an Option", [f"{short(f[0])}:{f[1]}: {f[2]}" for f in code if re.search(r"-> Option<\w*Refusal>", f[3])])
-    show("1b variants that say that something was refused", lines(r"^\s*Refused\b"))
+    show("1b variants that say that something was refused", lines(r"^\s*Refused\s*[({,]"))
     show("1c numbers in place of none, by their comments", [f"{short(p)}:{n}: {l.strip()}" for p, t in texts.items() for n, l in enumerate(t.split("\n"), 1) if l.strip().startswith("///") and re.search(r"if none|or the number of|\b0 (where|if) it is|is no item|All is 0|blank after|0 is no ", l)])
     show("1d numbers for kinds or refusals in fields", [r for r in lines(r"^\s*(pub(\(crate\))? )?(number|kind|code)\b.*: u\d+") if "fn " not in r])
 
@@ -128,7 +128,7 @@ def main():
 
     show("4a functions that print", lines(r"\bfn print_\w+"))
     show("4b casts", lines(r"\bas (u8|u16|u32|u64|usize|i64|char)\b"))
-    show("4c numbers and tasks of refusals", lines(r"\bfn (number|task)\(self\)"))
+    show("4c numbers and tasks of refusals", lines(r"\bfn (number\(self\) -> u8|task\(self\) -> Option<usize>)"))
     show("4d results and options taken apart and put together again", [f"{short(f[0])}:{f[1]}: {f[2]}" for f in code if re.search(r"(Ok|Some)\((\(\)|\w+)\) =>", f[5]) and re.search(r"(Err\(\w+\)|None) =>", f[5])])
     show("4e blank values written out", lines(r"\bconst (BLANK|NONE|NO_\w+)\b"))
 

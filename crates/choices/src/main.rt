@@ -2,19 +2,11 @@
 #![tactic(auto)]
 
 ghost use Rattle.std.specs.Prelude.{◌≡◌};
-ghost use Rattle.choosing.specs.Balance.{spent};
 ghost use Rattle.choices.specs.Served.{server_after, clients_after, StaysBalanced};
 
 use choosing::rules::{EarliestDeadline, LeastSlack};
 use choosing::{Choosing, Share};
 use std::io;
-
-/// Takes one tick from a share.
-fn spend(share: &mut Share)
-    ensures { share.new ≡ spent share.old }
-{
-    share.left = share.left.saturating_sub(1);
-}
 
 /// Gives one tick of a server to the client that the rule names, and answers that client. Where none is named, nothing
 /// changes.
@@ -24,14 +16,10 @@ fn give_tick<C: Choosing>(rule: &C, server: &mut Share, clients: &mut [Share]) -
     ensures clients { clients.new ≡ clients_after result clients.old }
     ensures balance { StaysBalanced result server.old clients.old server.new clients.new }
 {
-    match rule.choose(*server, clients) {
-        Some(named) => {
-            spend(server);
-            spend(&mut clients[named]);
-            Some(named)
-        }
-        None => None,
-    }
+    let named = rule.choose(*server, clients)?;
+    server.spend();
+    clients[named].spend();
+    Some(named)
 }
 
 /// Prints what a server has left, and what each of its clients has.

@@ -1,12 +1,14 @@
 -- The best of the first n clients, kept step by step, and that it is the first unbeaten one in the end. Assumes nothing.
-use Rattle.std.specs.Prelude.{◌≡◌, ℕ, zero, suc, ◌+◌, ◌<◌, ◌≤◌, Bool, true, false, not, ◌&&◌, List, [], ◌∷◌, length, Some, None, Option, refl}
+use Rattle.std.specs.Prelude.{◌≡◌, ℕ, zero, suc, ◌+◌, ◌<◌, ◌≤◌, Bool, true, false, not, ◌&&◌, List, [], ◌∷◌, length, Some, None, Option, position, refl}
 use Rattle.std.proofs.Common.{sym, ap, subst, ◌∙◌, ⊎_elim, add-one, arith, below_more}
-use Rattle.std.specs.Option.{option_map}
+use Rattle.std.specs.List.{list_all, position_or_len}
 use Rattle.std.specs.Cmp.{IsStrictWeakOrder}
+use Rattle.std.proofs.lemmas.List.Folds.{list_all_at}
+use Rattle.std.proofs.lemmas.List.Sums.{position_or_len_is}
 use Rattle.std.proofs.lemmas.Bool.{cases_lt, cases_Bool, both_ways, lt-ltb, le-ltb, and_from, and_left, and_right, cond-true, cond-false, not_from_true, not_from_false}
 use Rattle.choosing.specs.declared.share.Share.{Share}
-use Rattle.choosing.specs.Balance.{at}
-use Rattle.choosing.specs.Rules.{has_left, all_pass, unbeaten, first_place}
+use Rattle.choosing.specs.Balance.{nothing, at}
+use Rattle.choosing.specs.Rules.{has_left, unbeaten}
 
 -- Of the first n clients, the one at j has left, none with left beats it, and it beats each earlier one with left.
 pub record Leads (beats : Share → Share → Bool) (cs : List Share) (n j : ℕ) : Type 0 where
@@ -84,27 +86,20 @@ module _ {beats : Share → Share → Bool} (o : IsStrictWeakOrder beats) (cs : 
       (cases_lt (at cs i).left 1))
 
 -- ---- the best of all is the first that is unbeaten
-all_pass_true : (p : Share → Bool) (cs : List Share) → ((k : ℕ) → k < length cs → p (at cs k) ≡ true) → all_pass p cs ≡ true
-all_pass_true p [] each = refl
-all_pass_true p (c ∷ cs) each = and_from (p c) (all_pass p cs) (each 0 (omega arith)) (all_pass_true p cs (λ k in'. each (suc k) (omega arith)))
+list_all_true : (p : Share → Bool) (cs : List Share) → ((k : ℕ) → k < length cs → p (at cs k) ≡ true) → list_all p cs ≡ true
+list_all_true p [] each = refl
+list_all_true p (c ∷ cs) each = and_from (p c) (list_all p cs) (each 0 (omega arith)) (list_all_true p cs (λ k in'. each (suc k) (omega arith)))
 
-all_pass_false : (p : Share → Bool) (cs : List Share) (k : ℕ) → k < length cs → p (at cs k) ≡ false → all_pass p cs ≡ false
-all_pass_false p [] k in' e = absurd (omega arith)
-all_pass_false p (c ∷ cs) zero in' e = and_left (p c) (all_pass p cs) e
-all_pass_false p (c ∷ cs) (suc k) in' e = and_right (p c) (all_pass p cs) (all_pass_false p cs k (omega arith) e)
+module _ (p : Share → Bool) (cs : List Share) where
+  position_none : ((k : ℕ) → k < length cs → p (at cs k) ≡ false) → position p cs ≡ None
+  position_none each =
+      let end = position_or_len_is p cs (length cs) nothing (omega arith) each (λ past. absurd (omega arith)) in
+      cond-false _ _ _ (le-ltb (position_or_len p cs) (length cs) (omega arith))
 
-first_place_none : (p : Share → Bool) (cs : List Share) → ((k : ℕ) → k < length cs → p (at cs k) ≡ false) → first_place p cs ≡ None
-first_place_none p [] each = refl
-first_place_none p (c ∷ cs) each =
-    cond-false (p c) (Some 0) (option_map suc (first_place p cs)) (each 0 (omega arith))
-    ∙ ap (option_map suc) (first_place_none p cs (λ k in'. each (suc k) (omega arith)))
-
-first_place_some : (p : Share → Bool) (cs : List Share) (j : ℕ) → j < length cs → p (at cs j) ≡ true → ((k : ℕ) → k < j → p (at cs k) ≡ false) → first_place p cs ≡ Some j
-first_place_some p [] j in' here before = absurd (omega arith)
-first_place_some p (c ∷ cs) zero in' here before = cond-true (p c) (Some 0) (option_map suc (first_place p cs)) here
-first_place_some p (c ∷ cs) (suc j) in' here before =
-    cond-false (p c) (Some 0) (option_map suc (first_place p cs)) (before 0 (omega arith))
-    ∙ ap (option_map suc) (first_place_some p cs j (omega arith) here (λ k in''. before (suc k) (omega arith)))
+  position_some : (j : ℕ) → j < length cs → p (at cs j) ≡ true → ((k : ℕ) → k < j → p (at cs k) ≡ false) → position p cs ≡ Some j
+  position_some j in' here before =
+      let first = position_or_len_is p cs j nothing (omega arith) before (λ _. here) in
+      cond-true _ _ _ (lt-ltb (position_or_len p cs) (length cs) (omega arith)) ∙ ap Some first
 
 module _ (beats : Share → Share → Bool) (cs : List Share) where
   idle_not_unbeaten : (c : Share) → c.left ≡ 0 → unbeaten beats cs c ≡ false
@@ -112,7 +107,7 @@ module _ (beats : Share → Share → Bool) (cs : List Share) where
 
   leader_unbeaten : (j : ℕ) → Leads beats cs (length cs) j → unbeaten beats cs (at cs j) ≡ true
   leader_unbeaten j b = and_from (has_left (at cs j)) _ (lt-ltb 0 (at cs j).left b.left)
-      (all_pass_true (λ k. not (has_left k && beats k (at cs j))) cs (λ k in'. not_from_false (has_left (at cs k) && beats (at cs k) (at cs j))
+      (list_all_true (λ k. not (has_left k && beats k (at cs j))) cs (λ k in'. not_from_false (has_left (at cs k) && beats (at cs k) (at cs j))
       (⊎_elim
       (λ none. and_left (has_left (at cs k)) (beats (at cs k) (at cs j)) (le-ltb 0 (at cs k).left (omega arith)))
       (λ has. and_right (has_left (at cs k)) (beats (at cs k) (at cs j)) (b.ahead k in' has))
@@ -121,15 +116,15 @@ module _ (beats : Share → Share → Bool) (cs : List Share) where
   earlier_beaten : (j : ℕ) → Leads beats cs (length cs) j → (k : ℕ) → k < j → unbeaten beats cs (at cs k) ≡ false
   earlier_beaten j b k before = ⊎_elim
       (λ none. idle_not_unbeaten (at cs k) (omega arith))
-      (λ has. and_right (has_left (at cs k)) _ (all_pass_false (λ i. not (has_left i && beats i (at cs k))) cs j b.within
+      (λ has. and_right (has_left (at cs k)) _ (list_all_at (λ i. not (has_left i && beats i (at cs k))) cs j nothing b.within
       (not_from_true (has_left (at cs j) && beats (at cs j) (at cs k)) (and_from (has_left (at cs j)) (beats (at cs j) (at cs k)) (lt-ltb 0 (at cs j).left b.left) (b.first k before has)))))
       (cases_lt (at cs k).left 1)
 
-  pub best_is_first : (r : Option ℕ) → Best beats cs (length cs) r → r ≡ first_place (unbeaten beats cs) cs
-  best_is_first None b = sym (first_place_none (unbeaten beats cs) cs (λ k in'. idle_not_unbeaten (at cs k) (b k in')))
-  best_is_first (Some j) b = sym (first_place_some (unbeaten beats cs) cs j b.within (leader_unbeaten j b) (earlier_beaten j b))
+  pub best_is_first : (r : Option ℕ) → Best beats cs (length cs) r → r ≡ position (unbeaten beats cs) cs
+  best_is_first None b = sym (position_none (unbeaten beats cs) cs (λ k in'. idle_not_unbeaten (at cs k) (b k in')))
+  best_is_first (Some j) b = sym (position_some (unbeaten beats cs) cs j b.within (leader_unbeaten j b) (earlier_beaten j b))
 
-pub first_is_best : {beats : Share → Share → Bool} (o : IsStrictWeakOrder beats) (cs : List Share) → Best beats cs (length cs) (first_place (unbeaten beats cs) cs)
+pub first_is_best : {beats : Share → Share → Bool} (o : IsStrictWeakOrder beats) (cs : List Share) → Best beats cs (length cs) (position (unbeaten beats cs) cs)
 first_is_best {beats} o cs =
     let (r, b) = some_best o cs (length cs) in
     let P : Option ℕ → Type 0 = Best beats cs (length cs) in

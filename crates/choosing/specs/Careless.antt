@@ -1,7 +1,7 @@
 -- Rules that are no choosing rules. A reader of the contracts has to believe this file.
-use Rattle.std.specs.Prelude.{Some, None}
+use Rattle.std.specs.Prelude.{Some, None, position}
 use Rattle.choosing.specs.Choosing.{Rule, Lawful}
-use Rattle.choosing.specs.Rules.{has_left, first_place}
+use Rattle.choosing.specs.Rules.{has_left}
 
 -- Always the first client; always none.
 abbrev pub always_first : Rule
@@ -12,7 +12,7 @@ always_none s cs = None
 
 -- By fixed priority: the first client with left, whatever its deadline.
 abbrev pub fixed_priority : Rule
-fixed_priority s cs = first_place has_left cs
+fixed_priority s cs = position has_left cs
 
 -- None of them is lawful.
 pub record CarelessRulesAreUnlawful : Type 0 where

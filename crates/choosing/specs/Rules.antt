@@ -1,6 +1,6 @@
 -- The two choosing rules: whom each names, and as functions. A reader of the contracts has to believe this file.
-use Rattle.std.specs.Prelude.{◌≡◌, ℕ, suc, ◌<◌, ◌≤◌, Bool, true, cond, not, ◌&&◌, ◌⊎◌, List, [], ◌∷◌, length, ℤ, pos, ◌+ℤ◌, ◌-ℤ◌, ◌*ℤ◌, ◌<ℤ◌, Some, None, Option, int_lt, nat_lt}
-use Rattle.std.specs.Option.{option_map}
+use Rattle.std.specs.Prelude.{◌≡◌, ℕ, ◌<◌, ◌≤◌, Bool, cond, not, ◌&&◌, ◌⊎◌, List, length, position, ℤ, pos, ◌+ℤ◌, ◌-ℤ◌, ◌*ℤ◌, ◌<ℤ◌, None, Option, int_lt, nat_lt}
+use Rattle.std.specs.List.{list_all}
 use Rattle.choosing.specs.declared.share.Share.{Share}
 use Rattle.choosing.specs.Balance.{at}
 use Rattle.choosing.specs.Choosing.{Rule, HasLeft, Names}
@@ -26,22 +26,13 @@ IsLeastSlack s cs =
 abbrev pub has_left : Share → Bool
 has_left c = nat_lt 0 c.left
 
--- Each share of a list passes a test; the first place at which a test holds.
-abbrev pub all_pass : (Share → Bool) → List Share → Bool
-all_pass test [] = true
-all_pass test (c ∷ cs) = test c && all_pass test cs
-
-abbrev pub first_place : (Share → Bool) → List Share → Option ℕ
-first_place test [] = None
-first_place test (c ∷ cs) = cond (test c) (Some 0) (option_map suc (first_place test cs))
-
 -- Client c has left, and no client of cs that has left beats it.
 abbrev pub unbeaten : (Share → Share → Bool) → List Share → Share → Bool
-unbeaten beats cs c = has_left c && all_pass (λ k. not (has_left k && beats k c)) cs
+unbeaten beats cs c = has_left c && list_all (λ k. not (has_left k && beats k c)) cs
 
 -- The first unbeaten client, unless there are more than 80.
 abbrev pub first_unbeaten : (Share → Share → Bool) → List Share → Option ℕ
-first_unbeaten beats cs = cond (nat_lt 80 (length cs)) None (first_place (unbeaten beats cs) cs)
+first_unbeaten beats cs = cond (nat_lt 80 (length cs)) None (position (unbeaten beats cs) cs)
 
 -- One client beats another by an earlier deadline, or by less slack.
 abbrev pub sooner : Share → Share → Bool

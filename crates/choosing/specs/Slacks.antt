@@ -3,7 +3,7 @@ use Rattle.std.specs.Prelude.{◌≡◌, ℕ, ◌+◌, ◌*◌, ◌^◌, ◌<◌
 use Rattle.std.proofs.Common.{ap, ap₂, ◌∙◌, mul-add, mul-le-mul, arith, to_z, of_z}
 use borrow.Author.Differences.{ints, up, down, product_is, lt-false}
 use Rattle.std.specs.Int.{w64}
-use Rattle.std.proofs.lemmas.Int.{to_z-of_z, to_z_pos}
+use Rattle.std.proofs.lemmas.Int.{to_z-of_z}
 use Rattle.choosing.specs.declared.share.Share.{Share}
 use Rattle.choosing.specs.Rules.{slack, tighter}
 
@@ -22,48 +22,31 @@ pub record Small (e a m d x : ℕ) : Type 0 where
   pub deadline : d < 2 ^ 32
   pub client_left : x < 2 ^ 32
 
--- what each step computes, as the code has it: a number of 64 bits is read back from its bits
+-- what a step gives, as the code has it: a number of 64 bits is read back from its bits
 abbrev pub kept : ℤ → ℤ
 kept z = to_z w64 (of_z w64 z)
 
-abbrev pub frames : ℕ → ℕ → ℤ
-frames m d = to_z w64 m -ℤ to_z w64 d
-
 abbrev pub product : ℕ → ℕ → ℕ → ℤ
-product a m d = to_z w64 a *ℤ kept (frames m d)
-
-abbrev pub total : ℕ → ℕ → ℕ → ℕ → ℤ
-total e a m d = to_z w64 e +ℤ kept (product a m d)
+product a m d = kept (pos a) *ℤ kept (kept (pos m) -ℤ kept (pos d))
 
 abbrev pub spare : ℕ → ℕ → ℕ → ℕ → ℕ → ℤ
-spare e a m d x = kept (total e a m d) -ℤ to_z w64 x
-
-wide : (n : ℕ) → n < 2 ^ 32 → to_z w64 n ≡ pos n
-wide n h = to_z_pos w64 n (omega arith)
+spare e a m d x = kept (kept (pos e) +ℤ kept (product a m d)) -ℤ kept (pos x)
 
 below : (a n : ℕ) → a < 2 ^ 16 → n < 2 ^ 32 → a * n ≤ 2 ^ 16 * 2 ^ 32
 below a n h k = mul-le-mul {n₁ = a} {m₁ = n} {n₂ = 2 ^ 16} {m₂ = 2 ^ 32} (omega arith) (omega arith)
 
 module _ (e a m d x : ℕ) (b : Small e a m d x) where
-  frames_is : kept (frames m d) ≡ pos m -ℤ pos d
-  frames_is =
-      let fits : FitsSigned w64 (pos m -ℤ pos d) = omega (arith, ints) in
-      ap₂ (λ y z. kept (y -ℤ z)) (wide m b.client_deadline) (wide d b.deadline) ∙ to_z-of_z w64 _ fits
-
   product_at : product a m d ≡ pos a *ℤ (pos m -ℤ pos d)
-  product_at = ap₂ ◌*ℤ◌ (to_z_pos w64 a (omega arith)) frames_is
+  product_at =
+      let rate_is : kept (pos a) ≡ pos a = omega (arith, ints) in
+      let frames_is : kept (kept (pos m) -ℤ kept (pos d)) ≡ pos m -ℤ pos d = omega (arith, ints) in
+      ap₂ ◌*ℤ◌ rate_is frames_is
 
-  pub product_fits : FitsSigned w64 (product a m d)
+  product_fits : FitsSigned w64 (product a m d)
   product_fits = rw product_at (omega (arith, ints, scaled a m d, below a m b.rate b.client_deadline, below a d b.rate b.deadline))
 
-  total_is : total e a m d ≡ pos e +ℤ pos a *ℤ (pos m -ℤ pos d)
-  total_is = ap₂ ◌+ℤ◌ (wide e b.left) (to_z-of_z w64 _ product_fits ∙ product_at)
-
-  pub total_fits : FitsSigned w64 (total e a m d)
-  total_fits = rw total_is (omega (arith, ints, scaled a m d, below a m b.rate b.client_deadline, below a d b.rate b.deadline))
-
   spare_is : spare e a m d x ≡ pos e +ℤ pos a *ℤ (pos m -ℤ pos d) -ℤ pos x
-  spare_is = ap₂ ◌-ℤ◌ (to_z-of_z w64 _ total_fits ∙ total_is) (wide x b.client_left)
+  spare_is = omega (arith, ints, to_z-of_z w64 _ product_fits ∙ product_at, scaled a m d, below a m b.rate b.client_deadline, below a d b.rate b.deadline)
 
   pub spare_fits : FitsSigned w64 (spare e a m d x)
   spare_fits = rw spare_is (omega (arith, ints, scaled a m d, below a m b.rate b.client_deadline, below a d b.rate b.deadline))

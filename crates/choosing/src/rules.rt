@@ -3,8 +3,7 @@ ghost use Rattle.std.specs.Prelude.{◌≡◌, Bool};
 ghost use Rattle.std.specs.Cmp.{IsStrictWeakOrder};
 ghost use Rattle.choosing.specs.declared.share.Share.{Share};
 ghost use Rattle.choosing.specs.Rules.{IsEarliestDeadline, IsLeastSlack, slack, sooner, tighter, first_unbeaten, earliest_deadline, least_slack};
-ghost use Rattle.std.proofs.Common.{rules};
-ghost use Rattle.choosing.specs.Lawfulness.{earliest_deadline_lawful, least_slack_lawful};
+ghost use Rattle.choosing.specs.Lawfulness.{earliest_deadline_lawful, least_slack_lawful, ranks_sooner, ranks_tighter};
 ghost use Rattle.choosing.specs.Steadiness.{earliest_deadline_goes_on};
 
 use crate::choosing::{Choosing, Steady};
@@ -31,11 +30,8 @@ fn preferred<P: Preference>(preference: &P, server: Share, clients: &[Share]) ->
     }
     let mut best: Option<usize> = None;
     for (i, client) in clients.iter().enumerate() {
-        if client.left > 0 {
-            best = match best {
-                Some(b) if !preference.prefers(server, *client, clients[b]) => Some(b),
-                _ => Some(i),
-            };
+        if client.left > 0 && best.is_none_or(|b| preference.prefers(server, *client, clients[b])) {
+            best = Some(i);
         }
     }
     best
@@ -48,7 +44,7 @@ pub struct EarliestDeadline;
 impl Preference for EarliestDeadline {
     ghost beats = { λ _ _. sooner };
 
-    ghost ranks = { Prim.search rules };
+    ghost ranks = { λ _ _. ranks_sooner };
 
     fn prefers(&self, _server: Share, one: Share, other: Share) -> bool {
         one.deadline < other.deadline
@@ -77,8 +73,8 @@ impl Steady for EarliestDeadline {
 fn slack_of(server: Share, client: Share) -> i64
     ensures { result ≡ slack server client }
 {
-    let frames = client.deadline as i64 - server.deadline as i64;
-    server.left as i64 + server.rate as i64 * frames - client.left as i64
+    let frames = i64::from(client.deadline) - i64::from(server.deadline);
+    i64::from(server.left) + i64::from(server.rate) * frames - i64::from(client.left)
 }
 
 /// The client with left that has the least slack, the first of equals.
@@ -88,7 +84,7 @@ pub struct LeastSlack;
 impl Preference for LeastSlack {
     ghost beats = { λ _. tighter };
 
-    ghost ranks = { Prim.search rules };
+    ghost ranks = { λ _. ranks_tighter };
 
     fn prefers(&self, server: Share, one: Share, other: Share) -> bool {
         slack_of(server, one) < slack_of(server, other)

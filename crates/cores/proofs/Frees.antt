@@ -1,36 +1,49 @@
 -- The lowest free core. Assumes nothing.
-use Rattle.std.proofs.Common.{◌≡◌, ℕ, zero, suc, ◌+◌, ◌<◌, ◌≤◌, [], ◌∷◌, length, get_or, set, Some, None, Option, refl, arith}
-use Rattle.cores.specs.Placing.{Slots, first_free}
+use Rattle.std.proofs.Common.{◌≡◌, ℕ, zero, suc, ◌+◌, ◌<◌, ◌≤◌, cond, [], ◌∷◌, length, get_or, take, min, Some, None, Option, sym, refl, ◌∙◌, inl, inr, arith}
+use Rattle.std.specs.List.{position, position_or_len}
+use Rattle.std.proofs.lemmas.Bool.{cases_lt, cond-true, cond-false, lt-ltb, le-ltb}
+use Rattle.std.proofs.lemmas.List.{length-take-le}
+use Rattle.std.proofs.lemmas.List.Recursion.{is_position_or_len}
+use Rattle.cores.specs.Placing.{Slots, first_free, is_none}
 
 pub some_not_none : (o : Option ℕ) (t : ℕ) → o ≡ Some t → o ≡ None → ⊥
 some_not_none o t e f = let z : ◌≡◌ {A = ℕ} 0 1 = cc in omega arith
 
-pub first_free_most : (slots : Slots) → first_free slots ≤ length slots
-first_free_most [] = omega arith
-first_free_most (None ∷ slots) = omega arith
-first_free_most (Some t ∷ slots) = omega (arith, first_free_most slots)
-
--- no core below it is free, and it is free itself, if there is one
-pub first_free_least : (slots : Slots) (c : ℕ) → c < length slots → get_or slots c None ≡ None → first_free slots ≤ c
-first_free_least [] c h e = absurd (omega arith)
-first_free_least (None ∷ slots) c h e = omega arith
-first_free_least (Some t ∷ slots) zero h e = absurd (some_not_none (Some t) t refl e)
-first_free_least (Some t ∷ slots) (suc c) h e = omega (arith, first_free_least slots c (omega arith) e)
-
+-- it is free, if there is one
 pub first_free_gap : (slots : Slots) → get_or slots (first_free slots) None ≡ None
 first_free_gap [] = refl
 first_free_gap (None ∷ slots) = refl
 first_free_gap (Some t ∷ slots) = first_free_gap slots
 
--- the search for it goes on past a core that is taken
-pub first_free_more : (slots : Slots) (c t : ℕ) → c ≤ first_free slots → get_or slots c None ≡ Some t → c + 1 ≤ first_free slots
-first_free_more [] c t h e = absurd (some_not_none None t e refl)
-first_free_more (None ∷ slots) zero t h e = absurd (some_not_none None t e refl)
-first_free_more (None ∷ slots) (suc c) t h e = absurd (omega arith)
-first_free_more (Some u ∷ slots) zero t h e = omega arith
-first_free_more (Some u ∷ slots) (suc c) t h e = omega (arith, first_free_more slots c t (omega arith) e)
+-- among the first n cores
+first_free_take : (n : ℕ) (slots : Slots) → first_free (take n slots) ≡ min n (first_free slots)
+first_free_take zero slots = omega arith
+first_free_take (suc n) [] = omega arith
+first_free_take (suc n) (None ∷ slots) = omega arith
+first_free_take (suc n) (Some t ∷ slots) = omega (arith, first_free_take n slots)
 
-pub first_free_set : (slots : Slots) (t : ℕ) → first_free slots ≤ first_free (set slots (first_free slots) (Some t))
-first_free_set [] t = omega arith
-first_free_set (None ∷ slots) t = omega arith
-first_free_set (Some u ∷ slots) t = omega (arith, first_free_set slots t)
+-- it is the first place at which a core is free
+first_place_is : (slots : Slots) → first_free slots ≡ position_or_len is_none slots
+first_place_is = is_position_or_len first_free is_none refl (λ o slots. elim o as (λ o. first_free (o ∷ slots) ≡ cond (is_none o) 0 (1 + first_free slots)) [ None ↦ refl | Some t ↦ omega arith ])
+
+module _ (slots : Slots) (n : ℕ) (room : n ≤ length slots) where
+  abbrev place : ℕ
+  place = position_or_len is_none (take n slots)
+
+  place_is : place ≡ min n (first_free slots)
+  place_is = sym (first_place_is (take n slots)) ∙ first_free_take n slots
+
+  pub free_found : (c : ℕ) → position is_none (take n slots) ≡ Some c → (c < n) × (first_free slots ≡ c)
+  free_found c e = elim (cases_lt place (length (take n slots))) [
+    | inl low ↦
+        let here : position is_none (take n slots) ≡ Some place = cond-true _ _ _ (lt-ltb place (length (take n slots)) low) in
+        let same : place ≡ c = cc in
+        (omega (arith, length-take-le n slots room, place_is), omega (arith, length-take-le n slots room, place_is))
+    | inr high ↦ absurd (some_not_none _ c e (cond-false _ _ _ (le-ltb place (length (take n slots)) high)))
+  ]
+
+  pub free_none : position is_none (take n slots) ≡ None → n ≤ first_free slots
+  free_none e = elim (cases_lt place (length (take n slots))) [
+    | inl low ↦ absurd (some_not_none _ place (cond-true _ _ _ (lt-ltb place (length (take n slots)) low)) e)
+    | inr high ↦ omega (arith, length-take-le n slots room, place_is)
+  ]

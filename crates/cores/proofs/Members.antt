@@ -1,7 +1,8 @@
 -- Lists of tasks: who is named, how many pass a test, and what a fold keeps. Assumes nothing.
-use Rattle.std.proofs.Common.{◌≡◌, ℕ, zero, suc, ◌+◌, ◌<◌, ◌≤◌, Bool, true, false, eqb, ◌⊎◌, List, [], ◌∷◌, ◌++◌, length, get_or, fold, sym, refl, ap, ◌∙◌, inl, inr, arith}
+use Rattle.std.proofs.Common.{◌≡◌, ℕ, zero, suc, ◌+◌, ◌<◌, ◌≤◌, Bool, true, false, eqb, ◌⊎◌, List, [], ◌∷◌, ◌++◌, length, get_or, fold, sym, refl, ap, ap₂, ◌∙◌, ◌||◌, inl, inr, arith}
 use Rattle.std.proofs.lemmas.Bool.{false≢true, both_ways, cases_Bool, cases_eq, eq-eqb, eqb-true, or_cases, or_left, or_right, or_parts}
-use Rattle.std.specs.List.{AllByRecursion}
+use Rattle.std.proofs.lemmas.Bool.Decides.{nat_tests}
+use Rattle.std.specs.List.{AllByRecursion, list_any}
 use Rattle.cores.specs.Naming.{member, Different}
 
 -- ---- who is named
@@ -37,14 +38,12 @@ member_at (u ∷ ts) t m = elim (member_cases t u ts m) [
   | inr later ↦ let at = member_at ts t later in (suc at.0, omega (arith, at.1), at.2)
 ]
 
-pub named_at : (ts : List ℕ) (t c : ℕ) → c < length ts → t ≡ get_or ts c 0 → member t ts ≡ true
-named_at ts t c h e = ap (λ u. member u ts) e ∙ at_member ts c h
-
-pub named_nowhere : (ts : List ℕ) (t : ℕ) → ((c : ℕ) → c < length ts → t ≡ get_or ts c 0 → ⊥) → member t ts ≡ false
-named_nowhere ts t never = elim (cases_Bool (member t ts)) [
-  | inl m ↦ let at = member_at ts t m in absurd (never at.0 at.1 (sym at.2))
-  | inr out ↦ out
-]
+-- as the library's search of a list finds it
+pub any_is_member : (t : ℕ) (ts : List ℕ) → list_any (λ u. eqb u t) ts ≡ member t ts
+any_is_member t [] = refl
+any_is_member t (u ∷ us) =
+    let same : eqb u t ≡ eqb t u = grind (arith, nat_tests) in
+    ap₂ ◌||◌ same (any_is_member t us)
 
 pub different_at : (ts : List ℕ) → ((c d : ℕ) → c < length ts → d < length ts → get_or ts c 0 ≡ get_or ts d 0 → c ≡ d) → Different ts
 different_at [] apart = tt
@@ -116,21 +115,6 @@ module _ (test more : ℕ → Bool) (t : ℕ) (was : test t ≡ false) (now : mo
           omega (arith, ap bit (ap more (sym e) ∙ now), ap bit (ap test (sym e) ∙ was), count_same ts (ap (λ k. member k ts) e ∙ apart.0))
       go (inr ne) (inl e) ih = absurd (ne e)
       go (inr ne) (inr later) ih = omega (arith, ih later, ap bit (others u (λ e. ne (sym e))))
-
--- ---- tasks in number order are different
-abbrev pub Rising : List ℕ → Type 0
-Rising [] = Unit {0}
-Rising (t ∷ ts) = AllByRecursion (λ u. t < u) ts × Rising ts
-
-pub rising_different : (ts : List ℕ) → Rising ts → Different ts
-rising_different [] up = tt
-rising_different (t ∷ ts) up = (
-  elim (cases_Bool (member t ts)) [
-    | inl m ↦ let above : t < t = all_member (λ u. t < u) ts t up.0 m in absurd (omega arith)
-    | inr out ↦ out
-  ],
-  rising_different ts up.1,
-)
 
 -- ---- folds
 pub folded_append : {S : Type 0} (f : S → ℕ → S) (s : S) (xs ys : List ℕ) → fold f s (xs ++ ys) ≡ fold f (fold f s xs) ys

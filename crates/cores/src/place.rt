@@ -1,18 +1,17 @@
 //! The record of the cores, and the placing of a tick.
 ghost use Rattle.std.specs.Prelude.{◌≡◌, ◌≤◌};
 ghost use Rattle.cores.specs.Laws.{Lawful, Listed, Recorded};
-ghost use Rattle.cores.specs.Placing.{blank, limited, placed, put, written};
+ghost use Rattle.cores.specs.Placing.{blank, limited, placed, written};
 
 use crate::limits::{CORES, TASKS};
-use crate::passes::place_on;
 
 /// Where each task last ran, and what each core holds since the last tick.
 #[derive(Clone, Copy)]
 pub struct Cores {
     /// the core that each task last ran on
-    last: [Option<u8>; TASKS],
+    pub(crate) last: [Option<u8>; TASKS],
     /// the task that the last tick put on each core
-    held: [Option<u8>; CORES],
+    pub(crate) held: [Option<u8>; CORES],
 }
 
 impl Cores {
@@ -36,42 +35,23 @@ impl Cores {
         ensures lawful { Lawful self.old named.now (limited cores) self.new }
         ensures listed { Listed named.now (limited cores) self.new list.old list.new }
     {
-        let mut slots = [None; CORES];
-        place_on(
-            &mut slots,
-            &mut self.last,
-            &self.held,
-            named,
-            limited(cores),
-        );
-        self.held = slots;
-        write(&slots, list);
+        let cores = cores.min(CORES);
+        self.keep(named, cores);
+        self.come_back(named, cores);
+        self.settle_rest(named, cores);
+        self.write(list);
     }
-}
 
-/// As many cores as there is room for.
-fn limited(cores: usize) -> usize
-    ensures { result ≡ limited cores }
-{
-    if cores < CORES { cores } else { CORES }
-}
-
-/// Writes the task of each core into the core list, as far as the list goes.
-fn write(held: &[Option<u8>; CORES], list: &mut [u8])
-    ensures { list.new ≡ written held.now list.old }
-{
-    for core in 0..CORES {
-        put(list, core, held[core]);
-    }
-}
-
-/// Writes a task into the core list, if the list goes so far.
-fn put(list: &mut [u8], core: usize, task: Option<u8>)
-    ensures { list.new ≡ put list.old core task }
-{
-    if let Some(task) = task {
-        if core < list.len() {
-            list[core] = task;
+    /// Writes the task of each core into the core list, as far as the list goes.
+    fn write(&self, list: &mut [u8])
+        ensures { list.new ≡ written self.now.held list.old }
+    {
+        for (core, task) in self.held.iter().enumerate() {
+            if let Some(task) = task {
+                if core < list.len() {
+                    list[core] = *task;
+                }
+            }
         }
     }
 }

@@ -2,7 +2,7 @@
 use choosing::Share;
 
 /// A server and its dual, which has the same deadline and the rest of the unit as its rate.
-#[derive(Clone, Copy)]
+#[derive(Clone, Copy, Default)]
 pub struct Server {
     pub share: Share,
     /// the ticks left of the dual's present job

@@ -1,12 +1,10 @@
 -- The packing of the first items of a list, one item on. Assumes nothing.
-use Rattle.std.proofs.Common.{◌≡◌, ℕ, suc, ◌+◌, ◌<◌, ◌≤◌, eqb, ◌≢◌, List, [], ◌∷◌, ◌++◌, length, get_or, take, drop, set, Some, None, Option, sym, refl, ap, ◌∙◌, arith}
+use Rattle.std.proofs.Common.{◌≡◌, ℕ, suc, ◌+◌, ◌<◌, ◌≤◌, eqb, ◌≢◌, List, [], ◌∷◌, ◌++◌, length, get_or, take, drop, Some, None, Option, sym, refl, ap, ◌∙◌, arith}
 use Rattle.std.proofs.lemmas.List.{length-set, length-append, length_push, length-take-le, take-append-drop, take_more}
 use Rattle.std.proofs.lemmas.Bool.{cond-true, cond-false, cond_both, eq-eqb, ne_eqb}
 use Rattle.packing.specs.Fitting.{Rule}
-use Rattle.packing.specs.Packing.{grown, goes_to, used_after, home_after, filled, settled, servers_of, homes_of, packing_of}
-use Rattle.packing.specs.Steps.{Placed, Packed}
-use Rattle.packing.specs.Tables.{over}
-use Rattle.packing.proofs.Over.{over_over, over_push, length_over, take_over}
+use Rattle.packing.specs.Packing.{Packing, grown, used_after, home_after, filled, settled, servers_of, homes_of, packing_of}
+use Rattle.packing.specs.Steps.{Placed}
 
 -- ---- packings of two lists, one after the other
 
@@ -36,94 +34,58 @@ filled_longer rule unit used (x ∷ xs) =
     let rest = filled_longer rule unit (used_after rule unit used x) xs in
     omega arith
 
--- ---- one item on
+same_packing : (p q : Packing) → p.homes ≡ q.homes → p.rates ≡ q.rates → p ≡ q
+same_packing p q homes rates = λ t. record { homes = homes t; rates = rates t }
 
--- a new server is opened exactly if the home is the next one
-pub grown_open : (named : Option ℕ) (used : List ℕ) (rate j : ℕ) → j < length (grown named used rate)
-    → j ≡ length used → length (grown named used rate) ≡ length used + 1
-grown_open (Some k) used rate j below at = absurd (omega (arith, simp length-set at below))
-grown_open None used rate j below at = length_push used rate
+-- ---- one item on, where p is the packing of the first i items
 
-pub grown_kept : (named : Option ℕ) (used : List ℕ) (rate j : ℕ) → j ≡ goes_to named used
-    → j ≢ length used → length (grown named used rate) ≡ length used
-grown_kept (Some k) used rate j e at = length-set used k (get_or used k 0 + rate)
-grown_kept None used rate j e at = absurd (at e)
+module _ (rule : Rule) (unit : ℕ) (items : List ℕ) (i : ℕ) (p : Packing) (within : i < length items) (before : p ≡ packing_of rule unit (take i items)) where
+  pub homes_count : length p.homes ≡ i
+  homes_count = ap (λ q. length q.homes) before ∙ length_settled rule unit [] (take i items) ∙ length-take-le i items (omega arith)
 
-module _ (rule : Rule) (unit : ℕ) (items : List ℕ) (i : ℕ) (within : i < length items) where
-  servers_more : servers_of rule unit (take (i + 1) items) ≡ used_after rule unit (servers_of rule unit (take i items)) (get_or items i 0)
-  servers_more = ap (filled rule unit []) (take_more items i 0 within) ∙ filled_append rule unit [] (take i items) (get_or items i 0 ∷ [])
+  rates_on : servers_of rule unit (take (i + 1) items) ≡ used_after rule unit p.rates (get_or items i 0)
+  rates_on =
+      ap (servers_of rule unit) (take_more items i 0 within)
+      ∙ filled_append rule unit [] (take i items) (get_or items i 0 ∷ [])
+      ∙ ap (λ q. used_after rule unit q.rates (get_or items i 0)) (sym before)
 
-  homes_more : homes_of rule unit (take (i + 1) items)
-      ≡ homes_of rule unit (take i items) ++ home_after rule unit (servers_of rule unit (take i items)) (get_or items i 0) ∷ []
-  homes_more = ap (settled rule unit []) (take_more items i 0 within) ∙ settled_append rule unit [] (take i items) (get_or items i 0 ∷ [])
+  homes_on : homes_of rule unit (take (i + 1) items) ≡ p.homes ++ home_after rule unit p.rates (get_or items i 0) ∷ []
+  homes_on =
+      ap (homes_of rule unit) (take_more items i 0 within)
+      ∙ settled_append rule unit [] (take i items) (get_or items i 0 ∷ [])
+      ∙ ap (λ q. q.homes ++ home_after rule unit q.rates (get_or items i 0) ∷ []) (sym before)
 
-  homes_length : length (homes_of rule unit (take i items)) ≡ i
-  homes_length = length_settled rule unit [] (take i items) ∙ length-take-le i items (omega arith)
+  one_on : (q : Packing) → q.homes ≡ p.homes ++ home_after rule unit p.rates (get_or items i 0) ∷ [] → q.rates ≡ used_after rule unit p.rates (get_or items i 0)
+      → q ≡ packing_of rule unit (take (i + 1) items)
+  one_on q homes rates = same_packing q _ (homes ∙ sym homes_on) (rates ∙ sym rates_on)
 
--- the homes of one item more
-homes_set : (rule : Rule) (unit : ℕ) (items : List ℕ) (i : ℕ) → i < length items → (old new : List (Option ℕ)) (h : Option ℕ)
-    → i < length old → new ≡ over (homes_of rule unit (take i items)) old
-    → h ≡ home_after rule unit (servers_of rule unit (take i items)) (get_or items i 0)
-    → set new i h ≡ over (homes_of rule unit (take (i + 1) items)) old
-homes_set rule unit items i within old new h room was is =
-    let hs : List (Option ℕ) = homes_of rule unit (take i items) in
-    over_push hs old new i h (homes_length rule unit items i within) room was
-    ∙ ap (λ x. over (hs ++ x ∷ []) old) is
-    ∙ ap (λ xs. over xs old) (sym (homes_more rule unit items i within))
-
-module _ (rule : Rule) (unit : ℕ) (items : List ℕ) (i : ℕ) (n : ℕ) (old_homes homes : List (Option ℕ)) (old used : List ℕ)
-    (within : i < length items) (room : i < length old_homes) (before : Packed (packing_of rule unit (take i items)) n old_homes homes old used) where
   -- rate 0: no item
-  pub packed_skip : get_or items i 0 ≡ 0 → Packed (packing_of rule unit (take (i + 1) items)) n old_homes (set homes i None) old used
-  packed_skip none =
-      let same : servers_of rule unit (take (i + 1) items) ≡ servers_of rule unit (take i items) =
-      servers_more rule unit items i within ∙ cond-true _ _ _ (eq-eqb _ _ none) in
-      record {
-        servers = before.servers ∙ ap length (sym same);
-        room = before.room;
-        used = before.used ∙ ap (λ xs. over xs old) (sym same);
-        homes = homes_set rule unit items i within old_homes homes None room before.homes (sym (cond-true _ _ _ (eq-eqb _ _ none)));
-      }
+  pub packed_skip : get_or items i 0 ≡ 0 → (q : Packing) → q.homes ≡ p.homes ++ None ∷ [] → q.rates ≡ p.rates → q ≡ packing_of rule unit (take (i + 1) items)
+  packed_skip none q homes rates =
+      one_on q
+      (homes ∙ ap (λ h. p.homes ++ h ∷ []) (sym (cond-true _ _ _ (eq-eqb _ _ none))))
+      (rates ∙ sym (cond-true _ _ _ (eq-eqb _ _ none)))
 
-  front_is : take n used ≡ servers_of rule unit (take i items)
-  front_is =
-      let ps : List ℕ = servers_of rule unit (take i items) in
-      ap (take n) before.used ∙ ap (λ k. take k (over ps old)) before.servers ∙ take_over ps old
+  module _ (some : get_or items i 0 ≢ 0) where
+    -- an item was placed at j
+    pub packed_more : (j : ℕ) (q : Packing) → Placed (rule p.rates unit (get_or items i 0)) p.rates (get_or items i 0) j q.rates
+        → q.homes ≡ p.homes ++ Some j ∷ [] → q ≡ packing_of rule unit (take (i + 1) items)
+    packed_more j q placed homes =
+        one_on q
+        (homes ∙ ap (λ h. p.homes ++ h ∷ []) (ap Some placed.home ∙ sym (cond-false _ _ _ (ne_eqb _ _ some))))
+        (placed.used ∙ sym (cond-false _ _ _ (ne_eqb _ _ some)))
 
-  -- an item was placed at j, and then there are m servers
-  pub packed_more : (j m : ℕ) (used' : List ℕ) → get_or items i 0 ≢ 0
-      → Placed (rule (take n used) unit (get_or items i 0)) (take n used) (get_or items i 0) j used used'
-      → m ≡ length (grown (rule (take n used) unit (get_or items i 0)) (take n used) (get_or items i 0))
-      → Packed (packing_of rule unit (take (i + 1) items)) m old_homes (set homes i (Some j)) old used'
-  packed_more j m used' some placed count =
-      let ps : List ℕ = servers_of rule unit (take i items) in
-      let rate : ℕ = get_or items i 0 in
-      let more : servers_of rule unit (take (i + 1) items) ≡ grown (rule (take n used) unit rate) (take n used) rate =
-      servers_more rule unit items i within ∙ cond-false _ _ _ (ne_eqb _ _ some) ∙ ap (λ xs. grown (rule xs unit rate) xs rate) (sym front_is) in
-      let longer : length ps ≤ length (servers_of rule unit (take (i + 1) items)) =
-      omega (arith, grown_longer (rule (take n used) unit rate) (take n used) rate, ap length front_is, ap length more) in
-      let fits : length ps ≤ length old = omega (arith, before.servers, before.room) in
-      let same_length : length used ≡ length old = ap length before.used ∙ length_over ps old fits in
-      record {
-        servers = count ∙ ap length (sym more);
-        room = omega (arith, count, placed.room);
-        used = placed.used ∙ ap (λ xs. over xs used) (sym more) ∙ ap (over (servers_of rule unit (take (i + 1) items))) before.used ∙ over_over ps _ old longer;
-        homes = homes_set rule unit items i within old_homes homes (Some j) room before.homes
-            (ap Some (placed.home ∙ ap (λ xs. goes_to (rule xs unit rate) xs) front_is) ∙ sym (cond-false _ _ _ (ne_eqb _ _ some)));
-      }
-
-  -- an item found neither room nor a place for a new server
-  pub packed_full : get_or items i 0 ≢ 0 → rule (take n used) unit (get_or items i 0) ≡ None → n ≡ length used
-      → length old < length (servers_of rule unit items)
-  packed_full some none full =
-      let ps : List ℕ = servers_of rule unit (take i items) in
-      let rate : ℕ = get_or items i 0 in
-      let fits : length ps ≤ length old = omega (arith, before.servers, before.room) in
-      let same_length : length used ≡ length old = ap length before.used ∙ length_over ps old fits in
-      let more : servers_of rule unit (take (i + 1) items) ≡ take n used ++ rate ∷ [] =
-      servers_more rule unit items i within ∙ cond-false _ _ _ (ne_eqb _ _ some)
-      ∙ ap (λ xs. grown (rule xs unit rate) xs rate) (sym front_is) ∙ ap (λ o. grown o (take n used) rate) none in
-      let one_more : length (servers_of rule unit (take (i + 1) items)) ≡ length (take n used) + 1 = ap length more ∙ length_push (take n used) rate in
-      let all : servers_of rule unit items ≡ filled rule unit (servers_of rule unit (take (i + 1) items)) (drop (i + 1) items) =
-      ap (servers_of rule unit) (sym (take-append-drop (i + 1) items)) ∙ filled_append rule unit [] (take (i + 1) items) (drop (i + 1) items) in
-      omega (arith, filled_longer rule unit (servers_of rule unit (take (i + 1) items)) (drop (i + 1) items), ap length all, ap length front_is, before.servers)
+    -- an item found neither room nor a place for a new server
+    pub packed_full : rule p.rates unit (get_or items i 0) ≡ None → length p.rates ≡ 31 → 31 < length (servers_of rule unit items)
+    packed_full none full =
+        let more : servers_of rule unit (take (i + 1) items) ≡ p.rates ++ get_or items i 0 ∷ [] =
+        rates_on ∙ cond-false _ _ _ (ne_eqb _ _ some) ∙ ap (λ o. grown o p.rates (get_or items i 0)) none in
+        let all : servers_of rule unit items ≡ filled rule unit (servers_of rule unit (take (i + 1) items)) (drop (i + 1) items) =
+        ap (servers_of rule unit) (sym (take-append-drop (i + 1) items)) ∙ filled_append rule unit [] (take (i + 1) items) (drop (i + 1) items) in
+        omega (
+          arith,
+          filled_longer rule unit (servers_of rule unit (take (i + 1) items)) (drop (i + 1) items),
+          ap length all,
+          ap length more,
+          length_push p.rates (get_or items i 0),
+        )

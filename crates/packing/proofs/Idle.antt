@@ -1,8 +1,8 @@
 -- The idle tasks fill the cores, and are no more than the cores. Assumes nothing.
-use Rattle.std.proofs.Common.{◌≡◌, ℕ, zero, suc, ◌+◌, ◌-◌, ◌*◌, ◌/◌, ◌%◌, ◌<◌, ◌≤◌, eqb, List, [], ◌∷◌, ◌++◌, length, get_or, take, set, replicate, sum, sym, ap, ◌∙◌, subst, inl, inr, ⊎_elim, mul-le-mul_right, suc-mul, zero-mul, arith}
+use Rattle.std.proofs.Common.{◌≡◌, ℕ, zero, suc, ◌*◌, ◌/◌, ◌%◌, ◌<◌, ◌≤◌, eqb, List, [], ◌∷◌, length, get_or, replicate, sum, sym, ap, ◌∙◌, subst, inl, inr, ⊎_elim, mul-le-mul_right, suc-mul, zero-mul, arith}
 use Rattle.std.specs.List.{AllByRecursion}
 use Rattle.std.proofs.ByRecursion.{All-append, All-from_get_or}
-use Rattle.std.proofs.lemmas.List.{append_assoc, append-nil, length-append, length_push, length-replicate}
+use Rattle.std.proofs.lemmas.List.{length-append, length-replicate}
 use Rattle.std.proofs.lemmas.List.Sums.{sum_by-cons, sum_by-append}
 use Rattle.std.proofs.lemmas.Bool.{cases_eq, cases_lt, cond-true, cond-false, eq-eqb, ne_eqb}
 use Rattle.packing.specs.declared.refusal.Refusal.TheVariants.{BadCores, BadUnit, BadTaskCount, BadRate, Overload}
@@ -10,8 +10,6 @@ use Rattle.packing.specs.Packing.{Within}
 use Rattle.packing.specs.Plan.{spare, unless_zero, idle, all_tasks, FullCores}
 use Rattle.packing.specs.Refusals.{Allowed}
 use Rattle.packing.specs.Steps.{Limits}
-use Rattle.packing.specs.Tables.{over}
-use Rattle.packing.proofs.Over.{over_over, over_push, take_over}
 
 -- ---- a load that is allowed is within the limits
 
@@ -113,52 +111,3 @@ module _ (cores unit : ℕ) (sheet : List ℕ) (load : Limits cores unit sheet) 
         load.few_tasks,
         load.few_cores,
       )
-
-  -- ---- the tables in which they are written
-
-  -- the whole idle tasks and the rest, where the code has other names for the unit and for the sum of the sheet
-  pub whole_is : (p s : ℕ) → p ≡ unit → s ≡ sum sheet → (cores * p - s) / p ≡ spare cores unit sheet / unit
-  whole_is p s e f = ap (λ x. (cores * x - s) / x) e ∙ ap (λ y. (cores * unit - y) / unit) f
-
-  pub rest_is : (p s : ℕ) → p ≡ unit → s ≡ sum sheet → (cores * p - s) % p ≡ spare cores unit sheet % unit
-  rest_is p s e f = ap (λ x. (cores * x - s) % x) e ∙ ap (λ y. (cores * unit - y) % unit) f
-
-  module _ (w r : ℕ) (whole : w ≡ spare cores unit sheet / unit) (rest : r ≡ spare cores unit sheet % unit) where
-    pub room_whole : length sheet + w ≤ 80
-    room_whole = omega (arith, load.few_tasks, load.few_cores, few_whole unit (spare cores unit sheet) load.a_unit cores (omega arith))
-
-    pub room_rest : (r ≡ 0 → ⊥) → length sheet + w < 80
-    room_rest some = omega (arith, load.few_tasks, load.few_cores, fewer_whole unit (spare cores unit sheet) load.a_unit cores (omega arith) (λ none. some (rest ∙ none)))
-
-    module _ (old mid new : List ℕ) (size : length old ≡ 80) (sheet_written : mid ≡ over sheet old)
-        (whole_written : new ≡ over (take (length sheet) mid ++ replicate w unit) mid) where
-      front : new ≡ over (sheet ++ replicate w unit) old
-      front =
-          let head : take (length sheet) mid ≡ sheet = ap (take (length sheet)) sheet_written ∙ take_over sheet old in
-          whole_written
-          ∙ ap (λ xs. over (xs ++ replicate w unit) mid) head
-          ∙ ap (over (sheet ++ replicate w unit)) sheet_written
-          ∙ over_over sheet (sheet ++ replicate w unit) old (omega (arith, length-append sheet (replicate w unit)))
-
-      -- there is no rest
-      pub tasks_whole : r ≡ 0 → (length sheet + w ≡ length (all_tasks cores unit sheet)) × (new ≡ over (all_tasks cores unit sheet) old)
-      tasks_whole none =
-          let same : sheet ++ replicate w unit ≡ all_tasks cores unit sheet =
-          ap (λ xs. sheet ++ xs)
-          (sym (append-nil (replicate w unit))
-          ∙ ap (λ n. replicate n unit ++ []) whole
-          ∙ ap (λ xs. replicate (spare cores unit sheet / unit) unit ++ xs) (sym (unless_none (spare cores unit sheet % unit) (sym rest ∙ none)))) in
-          (omega (arith, length-append sheet (replicate w unit), length-replicate w unit, ap length same), front ∙ ap (λ xs. over xs old) same)
-
-      -- the rest stands behind the whole ones
-      pub tasks_rest : (r ≡ 0 → ⊥) → (length sheet + w + 1 ≡ length (all_tasks cores unit sheet)) × (set new (length sheet + w) r ≡ over (all_tasks cores unit sheet) old)
-      tasks_rest some =
-          let count : length (sheet ++ replicate w unit) ≡ length sheet + w = length-append sheet (replicate w unit) ∙ ap (λ n. length sheet + n) (length-replicate w unit) in
-          let same : sheet ++ replicate w unit ++ r ∷ [] ≡ all_tasks cores unit sheet =
-          append_assoc sheet (replicate w unit) (r ∷ [])
-          ∙ ap (λ n. sheet ++ (replicate n unit ++ r ∷ [])) whole
-          ∙ ap (λ x. sheet ++ (replicate (spare cores unit sheet / unit) unit ++ x ∷ [])) rest
-          ∙ ap (λ xs. sheet ++ (replicate (spare cores unit sheet / unit) unit ++ xs)) (sym (unless_some (spare cores unit sheet % unit) (λ none. some (rest ∙ none)))) in (
-            omega (arith, count, length_push (sheet ++ replicate w unit) r, ap length same),
-            over_push (sheet ++ replicate w unit) old new (length sheet + w) r count (omega (arith, size, room_rest some)) front ∙ ap (λ xs. over xs old) same,
-          )

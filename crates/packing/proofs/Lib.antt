@@ -1,11 +1,10 @@
 pub mod Laws
 pub mod Over
 pub mod Fronts
-pub mod Placing
 pub mod Sounds
 pub mod Plans
-pub mod Refusing
 pub mod Idle
-pub mod Reached
-pub mod Tabled
 pub mod Climbing
+pub mod Least
+pub mod Reached
+pub mod Planned

@@ -1,7 +1,7 @@
 -- A list that is written over the front of a table. Assumes nothing.
-use Rattle.std.proofs.Common.{◌≡◌, ℕ, suc, ◌+◌, ◌-◌, ◌<◌, ◌≤◌, List, [], ◌∷◌, ◌++◌, map, length, get_or, take, drop, set, replicate, sym, ap, ◌∙◌, arith, drop-cons, drop-drop}
+use Rattle.std.proofs.Common.{◌≡◌, ℕ, suc, ◌+◌, ◌-◌, ◌<◌, ◌≤◌, List, [], ◌∷◌, ◌++◌, length, get_or, take, drop, set, sym, ap, ◌∙◌, arith, drop-cons, drop-drop}
 use lib.Seq.{append_snoc, drop-append-add, take-append_seam, set-append_seam}
-use Rattle.std.proofs.lemmas.List.{length-append, length_push, length-drop, length-map, length-take-le, length-replicate, map_more, take_more, take-append-drop, append_assoc, replicate_more}
+use Rattle.std.proofs.lemmas.List.{length-append, length_push, length-drop, length-take-le, take-append-drop}
 use Rattle.packing.specs.Tables.{over}
 
 pub over_over : {X : Type 0} (xs ys old : List X) → length xs ≤ length ys → over ys (over xs old) ≡ over ys old
@@ -37,26 +37,6 @@ over_push front old new i y len room was =
     ∙ ap (λ n. set (over front old) n y) (sym len)
     ∙ over_set front old y fits
 
-pub over_map_more : (f : ℕ → ℕ) (xs old new : List ℕ) (i : ℕ) → i < length xs → length xs ≤ length old
-    → new ≡ over (map f (take i xs)) old → set new i (f (get_or xs i 0)) ≡ over (map f (take (i + 1) xs)) old
-over_map_more f xs old new i h room was =
-    over_push (map f (take i xs)) old new i (f (get_or xs i 0)) (length-map (take i xs) f ∙ length-take-le i xs (omega arith)) (omega arith) was
-    ∙ ap (λ ys. over ys old) (sym (map_more f xs i 0 h))
-
-pub over_more : (xs old new : List ℕ) (i : ℕ) → i < length xs → length xs ≤ length old
-    → new ≡ over (take i xs) old → set new i (get_or xs i 0) ≡ over (take (i + 1) xs) old
-over_more xs old new i h room was =
-    over_push (take i xs) old new i (get_or xs i 0) (length-take-le i xs (omega arith)) (omega arith) was
-    ∙ ap (λ ys. over ys old) (sym (take_more xs i 0 h))
-
 -- the front of a table over itself
 pub over_take : {X : Type 0} (n : ℕ) (old : List X) → n ≤ length old → over (take n old) old ≡ old
 over_take n old h = ap (λ k. take n old ++ drop k old) (length-take-le n old h) ∙ take-append-drop n old
-
--- one more of the same value behind a front
-pub over_replicate_more : {X : Type 0} (front old new : List X) (n i : ℕ) (y : X) → length front ≡ n → n + i < length old
-    → new ≡ over (front ++ replicate i y) old → set new (n + i) y ≡ over (front ++ replicate (i + 1) y) old
-over_replicate_more front old new n i y len room was =
-    let count : length (front ++ replicate i y) ≡ n + i = length-append front (replicate i y) ∙ omega (arith, len, length-replicate i y) in
-    over_push (front ++ replicate i y) old new (n + i) y count room was
-    ∙ ap (λ ys. over ys old) (append_assoc front (replicate i y) (y ∷ []) ∙ ap (λ ys. front ++ ys) (replicate_more i y))

@@ -1,7 +1,7 @@
 -- The three fitting rules: what each names, and as functions. A reader of the contracts has to believe this file.
-use Rattle.std.specs.Prelude.{◌≡◌, ℕ, ◌+◌, ◌-◌, ◌<◌, ◌≤◌, Bool, true, false, cond, ◌&&◌, ◌⊎◌, List, [], ◌∷◌, Some, None, Option, nat_le, nat_lt, slice_index}
-use Rattle.packing.specs.declared.rules.Preference.{Preference}
-use Rattle.packing.specs.declared.rules.Preference.TheVariants.{Earliest, Fullest, Emptiest}
+use Rattle.std.specs.Prelude.{◌≡◌, ℕ, ◌+◌, ◌-◌, ◌<◌, ◌≤◌, cond, ◌⊎◌, List, Option, filter, nat_le, nat_lt, position, slice_index}
+use Rattle.std.specs.List.{enumerate_from, reduce}
+use Rattle.std.specs.Option.{option_map}
 use Rattle.packing.specs.Fitting.{Rule, Room, Names}
 
 -- The parts of server j that are free.
@@ -22,37 +22,27 @@ abbrev pub IsWorstFit : List ℕ → ℕ → ℕ → Option ℕ → Type 0
 IsWorstFit used unit rate =
     Names used unit rate (λ j. (k : ℕ) → Room used unit rate k → (free used unit k < free used unit j) ⊎ ((free used unit j ≡ free used unit k) × (j ≤ k)))
 
--- The rules as functions: one pass over the open servers that keeps the best with room so far.
+-- ---- the rules as functions
 
--- Whether a server with x parts used is preferred to an earlier one with y.
-abbrev pub wins : Preference → ℕ → ℕ → Bool
-wins Earliest x y = false
-wins Fullest x y = nat_lt y x
-wins Emptiest x y = nat_lt x y
-
--- Whether a server with x parts used takes the place of the best so far.
-abbrev pub takes_over : Preference → List ℕ → Option ℕ → ℕ → Bool
-takes_over p used None x = true
-takes_over p used (Some b) x = wins p x (slice_index used b)
-
--- The best after server i, which has x parts used.
-abbrev pub better : Preference → List ℕ → ℕ → ℕ → Option ℕ → ℕ → ℕ → Option ℕ
-better p used unit rate best i x = cond (nat_le (x + rate) unit && takes_over p used best x) (Some i) best
-
--- The best of all, where `best` is the best before server i and the list has the servers from i on.
-abbrev pub best_from : Preference → List ℕ → ℕ → ℕ → Option ℕ → ℕ → List ℕ → Option ℕ
-best_from p used unit rate best i [] = best
-best_from p used unit rate best i (x ∷ xs) = best_from p used unit rate (better p used unit rate best i x) (i + 1) xs
-
-abbrev pub preferred : Preference → Rule
-preferred p used unit rate = best_from p used unit rate None 0 used
-
--- The three rules by their names.
+-- The first server with room.
 abbrev pub first_fit : Rule
-first_fit = preferred Earliest
+first_fit used unit rate = position (λ x. nat_le (x + rate) unit) used
 
+-- The servers with room, each by its number and the parts that it has used.
+abbrev pub with_room : List ℕ → ℕ → ℕ → List (ℕ × ℕ)
+with_room used unit rate = filter (λ s. nat_le (s.1 + rate) unit) (enumerate_from 0 used)
+
+-- Of two servers the one whose parts used have the lesser key; of equals the first.
+abbrev pub lesser : (ℕ → ℕ) → ℕ × ℕ → ℕ × ℕ → ℕ × ℕ
+lesser key a b = cond (nat_lt (key b.1) (key a.1)) b a
+
+-- The server with room of the least key, the first of equals.
+abbrev pub least : (ℕ → ℕ) → Rule
+least key used unit rate = option_map (λ s. s.0) (reduce (lesser key) (with_room used unit rate))
+
+-- By the parts free, and by the parts used.
 abbrev pub best_fit : Rule
-best_fit = preferred Fullest
+best_fit used unit rate = least (λ x. unit - x) used unit rate
 
 abbrev pub worst_fit : Rule
-worst_fit = preferred Emptiest
+worst_fit = least (λ x. x)

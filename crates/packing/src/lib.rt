@@ -2,21 +2,20 @@
 #![tactic(auto)]
 
 mod build;
-mod check;
 mod fitting;
 mod level;
 mod limits;
+mod load;
 mod opening;
-mod place;
 mod plan;
 mod refusal;
 pub mod rules;
-mod tasks;
 
 pub use fitting::Fitting;
-pub use level::Level;
+pub use level::{Level, is_home};
 pub use limits::{CORES, FRAMES, LEVELS, SERVERS, SHEET_TASKS, TASKS, UNIT};
-pub use opening::OpeningRefusal;
+pub use load::Load;
+pub use opening::{Opening, OpeningRefusal};
 pub use plan::Plan;
 pub use refusal::Refusal;
 

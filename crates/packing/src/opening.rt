@@ -1,13 +1,22 @@
 //! The plan of a run, which also has frames.
-ghost use Rattle.std.specs.Prelude.{◌≡◌, MatchOption};
+ghost use Rattle.std.specs.Prelude.{◌≡◌, MatchResult};
+ghost use Rattle.packing.specs.declared.opening.OpeningRefusal.TheVariants.{Load as LoadRefused};
 ghost use Rattle.packing.specs.Openings.{opening_row, FirstOfOpening, OpeningAllowed, MadeForRun};
 
 use crate::build::plan_of;
-use crate::check::first_refusal;
 use crate::fitting::Fitting;
 use crate::limits::FRAMES;
+use crate::load::Load;
 use crate::plan::Plan;
 use crate::refusal::Refusal;
+
+/// The opening of a run.
+#[derive(Clone, Copy)]
+pub struct Opening<'a> {
+    pub load: Load<'a>,
+    /// how many frames the run has
+    pub frames: u32,
+}
 
 /// Why the opening of a run is refused.
 #[derive(Clone, Copy, PartialEq, Eq, Debug)]
@@ -16,6 +25,14 @@ pub enum OpeningRefusal {
     Load(Refusal),
     /// frames not 1 to 65,535
     BadFrames,
+}
+
+impl From<Refusal> for OpeningRefusal {
+    ghost from_gives = { λ refusal e. e ≡ LoadRefused refusal };
+
+    fn from(refusal: Refusal) -> OpeningRefusal {
+        OpeningRefusal::Load(refusal)
+    }
 }
 
 impl OpeningRefusal {
@@ -40,44 +57,34 @@ impl OpeningRefusal {
     }
 }
 
-/// The refusal that counts for an opening, or none where it is allowed.
-fn first_of_opening(cores: u32, unit: u32, frames: u32, rates: &[u16]) -> Option<OpeningRefusal>
-    ensures { MatchOption result (OpeningAllowed cores unit frames rates.now) (FirstOfOpening cores unit frames rates.now) }
-{
-    let bad_frames = frames < 1 || frames > FRAMES;
-    match first_refusal(cores, unit, rates) {
-        Some(refusal) => {
-            if bad_frames && refusal.number() > 3 {
-                return Some(OpeningRefusal::BadFrames);
-            }
-            Some(OpeningRefusal::Load(refusal))
+impl Opening<'_> {
+    /// Whether the opening is allowed, or the refusal that counts.
+    fn check(&self) -> Result<(), OpeningRefusal>
+        ensures { let o = self.now in
+            MatchResult result (λ _. OpeningAllowed o.load.cores o.load.unit o.frames o.load.rates.now)
+            (FirstOfOpening o.load.cores o.load.unit o.frames o.load.rates.now) }
+    {
+        self.load.check_head()?;
+        if !(1..=FRAMES).contains(&self.frames) {
+            return Err(OpeningRefusal::BadFrames);
         }
-        None => {
-            if bad_frames {
-                return Some(OpeningRefusal::BadFrames);
-            }
-            None
-        }
+        self.load.check_tasks()?;
+        Ok(())
     }
 }
 
 impl Plan {
-    /// Makes the plan of a run of so many frames, as `make` does, which its frames do not alter. A refused opening leaves the
-    /// plan as it is.
+    /// Makes the plan of a run, which is that of its load. A refused opening leaves the plan as it is.
     pub fn make_for_run<F: Fitting>(
         &mut self,
         rule: &F,
-        cores: u32,
-        unit: u32,
-        frames: u32,
-        rates: &[u16],
+        opening: &Opening,
     ) -> Result<(), OpeningRefusal>
-        ensures { MadeForRun (F.fits rule.now) cores unit frames rates.now self.old self.new result }
+        ensures { let o = opening.now in
+            MadeForRun (F.fits rule.now) o.load.cores o.load.unit o.frames o.load.rates.now self.old self.new result }
     {
-        if let Some(refusal) = first_of_opening(cores, unit, frames, rates) {
-            return Err(refusal);
-        }
-        *self = plan_of(rule, cores, unit, rates);
+        opening.check()?;
+        *self = plan_of(rule, &opening.load);
         Ok(())
     }
 }

@@ -1,30 +1,26 @@
 //! The plan of a load.
-ghost use Rattle.std.specs.Prelude.{◌≡◌, ◌-◌, [], map, take, replicate, Some, None};
+ghost use Rattle.std.specs.Prelude.{◌≡◌, ◌-◌, [], map, length, replicate, Some, None};
 ghost use Rattle.packing.specs.Made.{Made};
 ghost use Rattle.packing.specs.Plan.{climb};
-ghost use Rattle.packing.specs.Tables.{over, plan_table, packing_in, levels_in};
+ghost use Rattle.packing.specs.Tables.{over, plan_table, levels_in};
 
 use crate::build::plan_of;
-use crate::check::first_refusal;
 use crate::fitting::Fitting;
 use crate::level::Level;
 use crate::limits::{LEVELS, TASKS};
+use crate::load::Load;
 use crate::refusal::Refusal;
+use arrayvec::ArrayVec;
 
 /// The plan of a load: its tasks, and the levels of servers over them, the lowest first. The items of level 0 are the
-/// tasks, and item j of any other level is the dual of server j of the level below. Behind its tasks and its levels the
-/// tables are blank.
-#[derive(Clone, Copy)]
+/// tasks, and item j of any other level is the dual of server j of the level below.
+#[derive(Clone, Drop)]
 pub struct Plan {
     /// the parts in one whole core
     pub unit: u16,
     /// the rates of the tasks, the idle ones after those of the sheet
-    pub rates: [u16; TASKS],
-    /// how many tasks there are
-    pub tasks: usize,
-    pub levels: [Level; LEVELS],
-    /// how many levels there are
-    pub depth: usize,
+    pub rates: ArrayVec<u16, TASKS>,
+    pub levels: ArrayVec<Level, LEVELS>,
 }
 
 impl Plan {
@@ -34,36 +30,32 @@ impl Plan {
     {
         Plan {
             unit: 0,
-            rates: [0; TASKS],
-            tasks: 0,
-            levels: [Level::BLANK; LEVELS],
-            depth: 0,
+            rates: ArrayVec::new(),
+            levels: ArrayVec::new(),
         }
     }
 
-    /// Makes the plan of tasks of these rates, in parts of the unit, on so many cores. A refused load leaves the plan as
-    /// it is.
-    pub fn make<F: Fitting>(
-        &mut self,
-        rule: &F,
-        cores: u32,
-        unit: u32,
-        rates: &[u16],
-    ) -> Result<(), Refusal>
-        ensures { Made (F.fits rule.now) cores unit rates.now self.old self.new result }
+    /// Makes the plan of a load. A refused load leaves the plan as it is.
+    pub fn make<F: Fitting>(&mut self, rule: &F, load: &Load) -> Result<(), Refusal>
+        ensures { Made (F.fits rule.now) load.now.cores load.now.unit load.now.rates.now self.old self.new result }
     {
-        if let Some(refusal) = first_refusal(cores, unit, rates) {
-            return Err(refusal);
-        }
-        *self = plan_of(rule, cores, unit, rates);
+        load.check()?;
+        *self = plan_of(rule, load);
         Ok(())
+    }
+
+    /// The same plan once more.
+    pub fn copy(&self) -> Plan
+        ensures { result ≡ self.now }
+    {
+        self.clone().unwrap()
     }
 
     /// The reductions: the levels less one.
     pub fn reductions(&self) -> usize
-        ensures { result ≡ self.now.depth - 1 }
+        ensures { result ≡ length self.now.levels.items - 1 }
     {
-        self.depth.saturating_sub(1)
+        self.levels.len().saturating_sub(1)
     }
 
     /// The way of a task, level by level: the server that it was placed in, the server that this one's dual was placed in,
@@ -71,22 +63,15 @@ impl Plan {
     pub fn path(&self, task: usize) -> [Option<u8>; LEVELS]
         ensures { result ≡ over (map Some (climb (levels_in self.now) task)) (replicate 5 None) }
     {
-        way_up(&self.levels, self.depth, task)
+        let mut path = [None; LEVELS];
+        let mut item = task;
+        for (k, level) in self.levels.iter().enumerate() {
+            let Some(home) = level.home(item) else {
+                return path;
+            };
+            path[k] = Some(home);
+            item = usize::from(home);
+        }
+        path
     }
-}
-
-/// The servers above a task, through the first `depth` levels.
-fn way_up(levels: &[Level; LEVELS], depth: usize, task: usize) -> [Option<u8>; LEVELS]
-    ensures { result ≡ over (map Some (climb (map packing_in (take depth levels.now)) task)) (replicate 5 None) }
-{
-    let mut path = [None; LEVELS];
-    let mut item = task;
-    for k in 0..depth.min(LEVELS) {
-        let Some(home) = levels[k].home(item) else {
-            return path;
-        };
-        path[k] = Some(home);
-        item = usize::from(home);
-    }
-    path
 }

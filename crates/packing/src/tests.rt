@@ -1,11 +1,16 @@
 //! Examples, worked out by hand.
 use crate::rules::*;
-use crate::{Fitting, OpeningRefusal, Plan, Refusal};
+use crate::{Fitting, Load, Opening, OpeningRefusal, Plan, Refusal};
+
+/// A load.
+fn load(cores: u32, unit: u32, rates: &[u16]) -> Load<'_> {
+    Load { cores, unit, rates }
+}
 
 /// The number of the refusal of a load by first fit; 0 where it is planned.
 fn refused(cores: u32, unit: u32, rates: &[u16]) -> u8 {
     let mut plan = Plan::blank();
-    match plan.make(&FirstFit, cores, unit, rates) {
+    match plan.make(&FirstFit, &load(cores, unit, rates)) {
         Ok(()) => 0,
         Err(refusal) => refusal.number(),
     }
@@ -14,14 +19,12 @@ fn refused(cores: u32, unit: u32, rates: &[u16]) -> u8 {
 /// How many servers each level has; 0 above the last.
 fn servers(cores: u32, unit: u32, rates: &[u16]) -> [usize; 5] {
     let mut plan = Plan::blank();
-    let _ = plan.make(&FirstFit, cores, unit, rates);
-    [
-        plan.levels[0].servers,
-        plan.levels[1].servers,
-        plan.levels[2].servers,
-        plan.levels[3].servers,
-        plan.levels[4].servers,
-    ]
+    let _ = plan.make(&FirstFit, &load(cores, unit, rates));
+    let mut servers = [0; 5];
+    for (count, level) in servers.iter_mut().zip(plan.levels.iter()) {
+        *count = level.rates.len();
+    }
+    servers
 }
 
 #[test]
@@ -56,13 +59,13 @@ fn servers_by_level(rt: HostRuntime) {
 #[test]
 fn idle_tasks_fill_the_cores(rt: HostRuntime) {
     let mut plan = Plan::blank();
-    let _ = plan.make(&FirstFit, 2, 10, &[4]);
-    assert_eq!(rt; plan.tasks, 3);
-    assert_eq!(rt; plan.rates[1], 10);
-    assert_eq!(rt; plan.rates[2], 6);
+    let _ = plan.make(&FirstFit, &load(2, 10, &[4]));
+    assert_eq!(rt; plan.rates.len(), 3);
+    assert_eq!(rt; plan.rates.get(1), Some(&10));
+    assert_eq!(rt; plan.rates.get(2), Some(&6));
     assert_eq!(rt; plan.reductions(), 0);
-    let _ = plan.make(&FirstFit, 16, 1000, &[1; 64]);
-    assert_eq!(rt; plan.tasks, 80);
+    let _ = plan.make(&FirstFit, &load(16, 1000, &[1; 64]));
+    assert_eq!(rt; plan.rates.len(), 80);
 }
 
 #[test]
@@ -81,21 +84,39 @@ fn refusals(rt: HostRuntime) {
 #[test]
 fn a_refused_load_leaves_the_plan(rt: HostRuntime) {
     let mut plan = Plan::blank();
-    assert_eq!(rt; plan.make(&WorstFit, 2, 3, &[2; 3]), Ok(()));
+    assert_eq!(rt; plan.make(&WorstFit, &load(2, 3, &[2; 3])), Ok(()));
     assert_eq!(rt;
-        plan.make(&WorstFit, 2, 3, &[2, 4, 0]),
+        plan.make(&WorstFit, &load(2, 3, &[2, 4, 0])),
         Err(Refusal::BadRate(1))
     );
     assert_eq!(rt; Refusal::BadRate(1).task(), Some(1));
-    assert_eq!(rt; plan.tasks, 3);
+    assert_eq!(rt; plan.rates.len(), 3);
     assert_eq!(rt; plan.path(2), [Some(2), Some(0), None, None, None]);
     assert_eq!(rt; plan.path(3), [None; 5]);
 }
 
+#[test]
+fn a_plan_is_copied(rt: HostRuntime) {
+    let mut plan = Plan::blank();
+    let _ = plan.make(&FirstFit, &load(7, 11, &[7; 11]));
+    assert_eq!(rt; plan.copy().path(4), plan.path(4));
+    assert_eq!(rt; plan.copy().reductions(), 3);
+    assert_eq!(rt;
+        plan.levels
+            .get(0)
+            .map_or(0, |level| level.copy().rates.len()),
+        11
+    );
+}
+
 /// The number of the refusal of an opening by first fit; 0 where its plan is made.
 fn refused_opening(cores: u32, unit: u32, frames: u32, rates: &[u16]) -> u8 {
+    let opening = Opening {
+        load: load(cores, unit, rates),
+        frames,
+    };
     let mut plan = Plan::blank();
-    match plan.make_for_run(&FirstFit, cores, unit, frames, rates) {
+    match plan.make_for_run(&FirstFit, &opening) {
         Ok(()) => 0,
         Err(refusal) => refusal.number(),
     }

@@ -39,7 +39,7 @@ may_begin s i d kept none =
     let (lasts, (known, (waits, (later, (in_run, _))))) = none_holds (announce_refusals (figures_of s) i d) none in
     let here : i < s.sheet = leb-false s.sheet i known in
     let is : awaited (figures_of s) i ≡ true = not-false (awaited (figures_of s) i) waits in
-    let mark : is_awaited (task_at s i).phase ≡ true = awaited_read s kept.phased i here kept.tables.1 ∙ is in
+    let mark : is_awaited (task_at s i).phase ≡ true = awaited_read s kept.phased i here ∙ is in
     record {
       goes_on = leb-false (s.unit * s.frames) s.tick lasts;
       known = here;
@@ -81,10 +81,10 @@ deadline_sum s = sum_by (λ (t : Task). t.share.deadline) (take s.count s.tasks)
 
 deadline_sum_bound : (s : State) → Kept s → deadline_sum s ≤ 80 * 65535
 deadline_sum_bound s kept =
-    let n : length (take s.count s.tasks) ≤ 80 = omega (arith, length-take s.count s.tasks, kept.tables.0) in
+    let n : length (take s.count s.tasks) ≤ 80 = omega (arith, length-take s.count s.tasks, s.few_tasks) in
     let each : AllByRecursion (λ (t : Task). t.share.deadline ≤ 65535) (take s.count s.tasks) = All-from_get_or (λ (t : Task). t.share.deadline ≤ 65535) (take s.count s.tasks) blank_task
     (λ i h. let below : i < s.count = omega (arith, length-take s.count s.tasks) in
-    omega (arith, ap (λ (t : Task). t.share.deadline) (get_or-take s.count s.tasks i blank_task below), kept.within i below, kept.numbers.2)) in
+    omega (arith, ap (λ (t : Task). t.share.deadline) (get_or-take s.count s.tasks i blank_task below), kept.within i below, s.few_frames)) in
     omega (arith, sum_by_le (λ (t : Task). t.share.deadline) 65535 (take s.count s.tasks) each, mul-le-mul_right 65535 n)
 
 pub jobs_fit : (s : State) → Kept s → s.jobs + 1 < 2 ^ 64
@@ -103,10 +103,10 @@ module _ (s : State) (i d : ℕ) (kept : Kept s) (may : MayBegin s i d) where
   s' = with_job s (set s.tasks i t')
 
   below : i < s.count
-  below = omega (arith, may.known, kept.tables.1)
+  below = omega (arith, may.known, s.sheet_tasks)
 
   in_table : i < length s.tasks
-  in_table = omega (arith, below, kept.tables.0, kept.tables.2)
+  in_table = omega (arith, below, s.few_tasks, kept.table)
 
   begun_now : t' ≡ begun_task t d
   begun_now = ap (λ p. next_in p t (Announce d)) (marked_is t.phase may.marked)
@@ -146,9 +146,8 @@ module _ (s : State) (i d : ℕ) (kept : Kept s) (may : MayBegin s i d) where
 
   pub kept_begun : Kept s'
   kept_begun = record {
-    tables = (kept.tables.0, kept.tables.1, rw length-set kept.tables.2, kept.tables.3);
-    levels = kept.levels;
-    numbers = kept.numbers;
+    table = rw length-set kept.table;
+    in_time = kept.in_time;
     phased = λ k h. elim (cases_eq k i) [
       | inl e ↦ subst (λ n. is_awaited (task_at s' n).phase ≡ due s (task_at s' n).share.deadline) (sym e) here_phased
       | inr ne ↦ ap (λ (x : Task). is_awaited x.phase) (at_other k ne) ∙ kept.phased k h ∙ ap (λ (x : Task). due s x.share.deadline) (sym (at_other k ne))

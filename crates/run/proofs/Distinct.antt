@@ -1,9 +1,7 @@
 -- Lists of different task numbers. Assumes nothing.
-use Rattle.std.proofs.Common.{◌≡◌, ℕ, zero, suc, ◌<◌, ◌≤◌, true, not, ◌&&◌, ltb, List, [], ◌∷◌, map, length, get_or, take, refl, ap₂, inl, inr, arith}
+use Rattle.std.proofs.Common.{◌≡◌, ℕ, zero, suc, ◌<◌, ◌≤◌, true, not, ◌&&◌, ltb, List, [], ◌∷◌, map, length, get_or, take, refl, ap₂, arith}
 use Rattle.std.specs.List.{AllByRecursion}
-use Rattle.std.proofs.ByRecursion.{All-get_or}
-use Rattle.std.proofs.lemmas.List.{get_or_past, get_or-take, length-take}
-use Rattle.std.proofs.lemmas.Bool.{cases_lt, lt-ltb, ltb-true, and_from, and_parts, not-true, not_from_false}
+use Rattle.std.proofs.lemmas.Bool.{lt-ltb, ltb-true, and_from, and_parts, not-true, not_from_false}
 use Rattle.cores.specs.Naming.{member, Different}
 use Rattle.run.specs.declared.task.Task.{Task}
 use Rattle.run.specs.Views.{blank_task}
@@ -22,13 +20,6 @@ distinct_to n (i ∷ is) e =
     let (new, more) = and_parts (not (member i is)) (distinct_below n is) rest in
     let (d, a) = distinct_to n is more in
     ((not-true (member i is) new, d), (ltb-true i n below, a))
-
--- Each number of the front of a table is below n, where all of the list are; past the end stands 0.
-pub below_at : (m c : ℕ) (xs : List ℕ) → 0 < m → AllByRecursion (λ i. i < m) (take c xs) → (k : ℕ) → k < c → get_or xs k 0 < m
-below_at m c xs some all k h = elim (cases_lt k (length xs)) [
-  | inl inside ↦ let here : get_or (take c xs) k 0 < m = All-get_or (λ i. i < m) (take c xs) k 0 (omega (arith, length-take c xs)) all in omega (arith, get_or-take c xs k 0 h)
-  | inr past ↦ omega (arith, get_or_past xs k 0 past)
-]
 
 -- Two tables that agree at each place, in what f reads of them.
 pub same_by : {Y : Type 0} (f : Task → Y) (n : ℕ) (xs ys : List Task) → length xs ≡ length ys → ((i : ℕ) → f (get_or xs i blank_task) ≡ f (get_or ys i blank_task))

@@ -1,5 +1,5 @@
 -- The tables of an opened run, read as the run that the laws speak of. Assumes nothing.
-use Rattle.std.proofs.Common.{◌≡◌, ℕ, suc, ◌+◌, Bool, true, false, List, [], ◌∷◌, length, get_or, take, replicate, None, sym, ap, ◌∙◌, subst, arith}
+use Rattle.std.proofs.Common.{◌≡◌, ℕ, suc, ◌+◌, Bool, true, false, List, [], ◌∷◌, length, get_or, replicate, None, sym, ap, ◌∙◌, subst, arith}
 use Rattle.packing.specs.Fitting.{Rule, Lawful}
 use Rattle.choosing.specs.Choosing.{Rule as Choosing, Lawful as LawfulChoosing}
 use Rattle.levels.specs.Running.{State, announce}
@@ -12,11 +12,9 @@ use Rattle.ledger.specs.Theorems.{FreshRun}
 use Rattle.ledger.proofs.Opened.{every_opening_is_fresh}
 use Rattle.ledger.specs.Scheduler as ledger
 use Rattle.run.specs.declared.state.State.{State as Tables}
-use Rattle.run.specs.Bounds.{Bounds}
 use Rattle.run.specs.Keeping.{Phased, DeadlinesWithin, FewJobs, Kept, distinct_below}
 use Rattle.run.specs.Opened.{begin_idle, Opens, NeverOpened}
 use Rattle.run.specs.Runs.{run_of, setting_of, OpenedRun, BlankRun}
-use Rattle.run.specs.Views.{numbers_of}
 use Rattle.run.proofs.Tables.{get_or_blank}
 
 -- idle tasks begin their jobs: the state and the count of jobs apart
@@ -39,7 +37,7 @@ is_opened fit cores unit frames sheet s choose opens =
     let none : length (idle_rates o) ≡ 0 + length (idle_rates o) = omega arith in
     let b = opens.begun ∙ none in
     let d = opens.unpreempted in
-    let e : (i : ℕ) → member i (numbers_of s.unfinished) ≡ false = λ i. ap (λ n. member i (take n s.unfinished.tasks)) opens.none_unfinished in
+    let e : (i : ℕ) → member i s.unfinished.items ≡ false = λ i. ap (member i) opens.none_unfinished in
     (λ t. record { state = a t; jobs = b t; preemptions = d t; before = λ i. e i t })
     ∙ sym (begun_apart frames (length sheet) (idle_rates o) (opening (rates o) opens.plan.levels) 0 0 (λ i. false))
 
@@ -48,16 +46,15 @@ is_opened fit cores unit frames sheet s choose opens =
 none_on : (n c t : ℕ) → is_task (get_or (replicate n None) c None) t ≡ false
 none_on n c t = ap (λ x. is_task x t) (get_or_blank None n c)
 
-pub kept_unticked : (s : Tables) → Bounds s → Phased s → DeadlinesWithin s → FewJobs s → s.preemptions ≡ 0 → s.placing ≡ blank → s.unfinished.count ≡ 0 → Kept s
-kept_unticked s b phased within jobs unpreempted unplaced none = record {
-  tables = (b.0, b.1, b.2, b.10);
-  levels = (b.3, b.4, b.5);
-  numbers = (b.6, b.7, b.8, b.9);
+pub kept_unticked : (s : Tables) → length s.tasks ≡ 80 → s.tick ≡ 0 → Phased s → DeadlinesWithin s → FewJobs s → s.preemptions ≡ 0 → s.placing ≡ blank → s.unfinished.items ≡ [] → Kept s
+kept_unticked s table starts phased within jobs unpreempted unplaced none = record {
+  table = table;
+  in_time = omega (arith, starts);
   phased = phased;
   within = within;
   jobs = jobs;
   preemptions = omega (arith, unpreempted);
-  unfinished = ap (λ n. distinct_below s.count (take n s.unfinished.tasks)) none;
+  unfinished = ap (distinct_below s.count) none;
   recorded = λ t c on. let clash : false ≡ true = sym (ap (λ x. is_task (get_or x.held c None) t) unplaced ∙ none_on 16 c t) ∙ on in cc;
 }
 
@@ -87,7 +84,7 @@ blank_run choose s never = record {
       let a = never.shows in
       let b = never.unbegun in
       let d = never.unpreempted in
-      let e : (i : ℕ) → member i (numbers_of s.unfinished) ≡ false = λ i. ap (λ n. member i (take n s.unfinished.tasks)) never.none_unfinished in
+      let e : (i : ℕ) → member i s.unfinished.items ≡ false = λ i. ap (member i) never.none_unfinished in
       λ t. record { state = a t; jobs = b t; preemptions = d t; before = λ i. e i t };
   stays = λ t. record { machine = never.runs_on t; tasks = never.no_sheet t; choose = choose };
   placing = never.unplaced;

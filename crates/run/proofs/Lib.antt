@@ -3,7 +3,6 @@ pub mod Carried
 pub mod Distinct
 pub mod Falling
 pub mod Fitted
-pub mod Keeps
 pub mod Levelled
 pub mod Listing
 pub mod Marking

@@ -24,6 +24,14 @@ module _ (n : ℕ) (test : ℕ → Bool) where
   pub passing_no : test n ≡ false → passing 0 (n + 1) test ≡ passing 0 n test
   passing_no = last_no _ _ _ _ more
 
+-- ---- tests that agree on the numbers
+
+pub passing_same : (j n : ℕ) (test test' : ℕ → Bool) → ((i : ℕ) → j ≤ i → i < j + n → test i ≡ test' i) → passing j n test ≡ passing j n test'
+passing_same j zero test test' same = refl
+passing_same j (suc n) test test' same =
+    let rest = passing_same (suc j) n test test' (λ i h l. same i (omega arith) (omega arith)) in
+    ap (λ b. cond b (j ∷ passing (suc j) n test) (passing (suc j) n test)) (same j (omega arith) (omega arith)) ∙ ap (λ is. cond (test' j) (j ∷ is) is) rest
+
 -- ---- who is in the list
 
 member_split : (t j : ℕ) (us : List ℕ) (b : Bool) → member t (cond b (j ∷ us) us) ≡ ((b && eqb t j) || member t us)

@@ -7,10 +7,9 @@ use Rattle.ledger.specs.Calls.{Entry}
 use Rattle.ledger.specs.Openings.{Opening, opening_of}
 use Rattle.ledger.proofs.Conforming.{reached_conforms}
 use Rattle.ledger.specs.Scheduler.{Reached}
-use Rattle.run.specs.declared.call.Answer.{Answer}
 use Rattle.run.specs.declared.call.Call.{Call}
 use Rattle.run.specs.declared.state.State.{State}
-use Rattle.run.specs.Replays.{answer_of, call_of, history_of, AllAnswered, Answered, GoesOnBy, Played}
+use Rattle.run.specs.Replays.{Answer, answer_of, call_of, history_of, AllAnswered, Answered, GoesOnBy, Played}
 use Rattle.run.specs.Runs.{run_of, setting_of, Lawfully, OpenedRun}
 
 abbrev entry : Call → Answer → Entry

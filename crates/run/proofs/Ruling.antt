@@ -24,10 +24,10 @@ module _ (choose : Rule) (s : State) (kept : Kept s) (old new : List ℕ) (s' : 
   wide = ltb-false (length old) s.cores (none_holds (tick_refusals (figures_of s) (length old)) (sym t.granted)).1.0
 
   all_cores : limited s.cores ≡ s.cores
-  all_cores = omega (arith, kept.numbers.0)
+  all_cores = omega (arith, s.few_cores)
 
   below : AllByRecursion (λ i. i < 80) (named_by choose s)
-  below = All-weaker (λ i. i < s.count) (λ i. i < 80) (λ i h. omega (arith, kept.tables.0)) (named_by choose s) (below_passing s.count (running (setting_of choose s) (run_of s)))
+  below = All-weaker (λ i. i < s.count) (λ i. i < 80) (λ i h. omega (arith, s.few_tasks)) (named_by choose s) (below_passing s.count (running (setting_of choose s) (run_of s)))
 
   -- the core list names just the tasks that run, where there are as many as cores
   listed_names : length (named_by choose s) ≡ s.cores → NamesRun (setting_of choose s) (run_of s) (take s.cores new)

@@ -6,10 +6,10 @@ use Rattle.run.specs.declared.task.Event.TheVariants.{FrameStart}
 use Rattle.run.specs.declared.task.Phase.{Phase}
 use Rattle.run.specs.declared.task.Phase.TheVariants.{Served, AtWork, Awaited}
 use Rattle.run.specs.declared.task.Task.{Task}
-use Rattle.run.specs.Changing.{with_tasks}
-use Rattle.run.specs.Keeping.{due, Phased, Unmarked, Started, SameItems}
+use Rattle.run.specs.Changing.{Changed, with_tasks}
+use Rattle.run.specs.Keeping.{due, Phased, Unmarked, SameItems}
 use Rattle.run.specs.Phases.{is_awaited, next, next_in, with}
-use Rattle.run.specs.Views.{item_of, task_at}
+use Rattle.run.specs.Views.{blank_task, item_of, task_at}
 
 -- ---- one task
 
@@ -66,17 +66,17 @@ module _ (s : State) (unmarked : Unmarked s) where
   midst_phased some midst i h =
       unmarked i h ∙ sym (and_right (not (leb (s.unit * s.frames) s.tick)) _ (not_now s.unit s.tick (task_at s i).share.deadline some midst))
 
-  module _ (tasks : List Task) (done : Started (s.tick / s.unit) s.sheet s.tasks tasks) where
+  module _ (tasks : List Task) (done : Changed blank_task (λ _ t. next t (FrameStart (s.tick / s.unit))) s.tasks tasks s.sheet) where
     pub start_items : SameItems s (with_tasks s tasks)
     start_items i = elim (cases_lt i s.sheet) [
-      | inl h ↦ ap item_of (done.0 i h) ∙ start_item (task_at s i) (s.tick / s.unit)
-      | inr h ↦ ap item_of (done.1 i h)
+      | inl h ↦ ap item_of (done.done i h) ∙ start_item (task_at s i) (s.tick / s.unit)
+      | inr h ↦ ap item_of (done.rest i h)
     ]
 
     pub start_phased : s.tick < s.unit * s.frames → 0 < s.unit → s.tick % s.unit ≡ 0 → Phased (with_tasks s tasks)
     start_phased lasts some start i h =
         let d = (task_at s i).share.deadline in
-        ap (λ (t : Task). is_awaited t.phase) (done.0 i h)
+        ap (λ (t : Task). is_awaited t.phase) (done.done i h)
         ∙ start_mark (task_at s i) (s.tick / s.unit) (unmarked i h)
         ∙ now_is_frame s.unit s.tick d some start
         ∙ ap (λ b. not b && eqb s.tick (s.unit * d)) (sym (lt-leb (s.unit * s.frames) s.tick lasts))

@@ -10,7 +10,6 @@ use Rattle.levels.specs.Running.{ready, runs, step}
 use Rattle.levels.specs.Ticking.{always, named, spend_items, spend_levels}
 use Rattle.levels.specs.Sums.{passing}
 use Rattle.levels.specs.declared.server.Server.{Server}
-use Rattle.run.specs.Bounds.{Bounds}
 use Rattle.run.specs.Changing.{with_all, with_levels, with_tables}
 use Rattle.run.specs.Turns.{names, tick_if}
 use Rattle.run.specs.Views.{flags, item_of, levels_of, machine, tasks_of, view, blank_task, task_at}
@@ -22,10 +21,10 @@ use Rattle.run.proofs.Marking.{named_past}
 use Rattle.run.proofs.Ticked.{items_ticked}
 
 -- All levels have run, and the tasks that are marked go through the tick.
-module _ (rule : Rule) (e s : State) (bounds : Bounds e) (marks : List Bool) (kept : s ≡ with_levels e s.levels) (marked : flags marks ≡ names rule e) where
+module _ (rule : Rule) (e s : State) (table : length e.tasks ≡ 80) (marks : List Bool) (kept : s ≡ with_levels e s.levels) (marked : flags marks ≡ names rule e) where
   none_past : (i : ℕ) → e.count ≤ i → names rule e i ≡ false
   none_past i h =
-      let size : length (tasks_of e) ≡ e.count = count_low e bounds 0 refl in
+      let size : length (tasks_of e) ≡ e.count = count_low e table 0 refl in
       named_past (always rule) e.unit (tasks_of e) (levels_of e) i (omega (arith, size, h))
 
   module _ (ts : List Task) (long : length ts ≡ 80)
@@ -42,7 +41,7 @@ module _ (rule : Rule) (e s : State) (bounds : Bounds e) (marks : List Bool) (ke
     pub tasks_are : map item_of (take s.count ts) ≡ spend_items (names rule e) (tasks_of e)
     tasks_are =
         ap (λ x. map item_of (take x.count ts)) kept ∙
-        items_ticked (names rule e) e.count e.tasks ts (omega (arith, bounds.0, bounds.2)) (long ∙ sym bounds.2) each_is
+        items_ticked (names rule e) e.count e.tasks ts (omega (arith, e.few_tasks, table)) (long ∙ sym table) each_is
 
   module _ (numbers : List ℕ) (listed : numbers ≡ passing 0 s.count (flags marks)) where
     pub listed_are : numbers ≡ passing 0 e.count (names rule e)
@@ -81,9 +80,6 @@ module _ (rule : Rule) (e m x : State)
   pub tick_same : x.tick ≡ e.tick
   tick_same = ap (λ s. s.tick) kept ∙ ap (λ s. s.tick) made
 
-  pub end_same : x.unit * x.frames ≡ e.unit * e.frames
-  end_same = ap (λ s. s.unit * s.frames) kept ∙ ap (λ s. s.unit * s.frames) made
-
   pub kept_is : with_all x (x.tick + 1) x.tasks x.levels ≡ with_all e (suc e.tick) x.tasks x.levels
   kept_is =
       ap (λ s. with_all s (s.tick + 1) x.tasks x.levels) kept ∙
@@ -99,8 +95,8 @@ module _ (rule : Rule) (e m x : State)
 -- ---- frames and ticks
 
 -- The last tick fits its width.
-pub short_run : (s : State) → Bounds s → s.unit * s.frames ≤ 1000 * 65535
-short_run s bounds = mul-le-mul {n₁ = s.unit} {m₁ = s.frames} {n₂ = 1000} {m₂ = 65535} bounds.7 bounds.8
+pub short_run : (s : State) → s.unit * s.frames ≤ 1000 * 65535
+short_run s = mul-le-mul {n₁ = s.unit} {m₁ = s.frames} {n₂ = 1000} {m₂ = 65535} s.small_unit s.few_frames
 
 -- At a frame start the levels are ready when they are renewed.
 pub ready_renewed : (e : State) (f : ℕ) (ls : List (List Server)) → e.tick % e.unit ≡ 0 → f ≡ e.tick / e.unit → ls ≡ renew_levels e.unit e.frames f (tasks_of e) (levels_of e) → ls ≡ ready (machine e) (view e)

@@ -1,13 +1,10 @@
 -- What holds of the tables of every run between any two calls; it makes each call safe.
-use Rattle.std.specs.Prelude.{◌≡◌, ℕ, ◌*◌, ◌<◌, ◌≤◌, Bool, true, false, not, ◌&&◌, List, [], ◌∷◌, take, None, sum_by, ◌==◌, nat_le, nat_lt, slice_index_or}
+use Rattle.std.specs.Prelude.{◌≡◌, ℕ, ◌*◌, ◌<◌, ◌≤◌, Bool, true, false, not, ◌&&◌, List, [], ◌∷◌, length, take, None, sum_by, ◌==◌, nat_le, nat_lt, slice_index_or}
 use Rattle.cores.specs.Naming.{member}
 use Rattle.cores.specs.Placing.{is_task}
 use Rattle.run.specs.declared.state.State.{State}
-use Rattle.run.specs.declared.task.Event.TheVariants.{FrameStart}
-use Rattle.run.specs.declared.task.Task.{Task}
-use Rattle.run.specs.Bounds.{TablesBound, LevelsBound, NumbersBound}
-use Rattle.run.specs.Phases.{is_awaited, next}
-use Rattle.run.specs.Views.{blank_task, item_of, numbers_of, task_at}
+use Rattle.run.specs.Phases.{is_awaited}
+use Rattle.run.specs.Views.{item_of, task_at}
 
 -- The run is not over, and the deadline is the frame that starts at the present tick.
 abbrev pub due : State → ℕ → Bool
@@ -34,7 +31,7 @@ distinct_below n [] = true
 distinct_below n (i ∷ is) = nat_lt i n && (not (member i is) && distinct_below n is)
 
 abbrev pub UnfinishedTasks : State → Type 0
-UnfinishedTasks s = distinct_below s.count (numbers_of s.unfinished) ≡ true
+UnfinishedTasks s = distinct_below s.count s.unfinished.items ≡ true
 
 -- Each task on a core has that core as its last.
 abbrev pub CoresRecorded : State → Type 0
@@ -46,20 +43,14 @@ CoresRecorded s = (t c : ℕ) → is_task (slice_index_or s.placing.held c None)
 abbrev pub Unmarked : State → Type 0
 Unmarked s = (i : ℕ) → i < s.sheet → is_awaited (task_at s i).phase ≡ false
 
--- The first n tasks of a table have gone through the start of a frame; the others are as they were.
-abbrev pub Started : ℕ → ℕ → List Task → List Task → Type 0
-Started frame n old new =
-    ((i : ℕ) → i < n → slice_index_or new i blank_task ≡ next (slice_index_or old i blank_task) (FrameStart frame)) × ((i : ℕ) → n ≤ i → slice_index_or new i blank_task ≡ slice_index_or old i blank_task)
-
 -- Shares and homes of all tasks are as they were.
 abbrev pub SameItems : State → State → Type 0
 SameItems s s' = (i : ℕ) → item_of (task_at s' i) ≡ item_of (task_at s i)
 
 -- All of it together.
 pub record Kept (s : State) : Type 0 where
-  pub tables : TablesBound s
-  pub levels : LevelsBound s
-  pub numbers : NumbersBound s
+  pub table : length s.tasks ≡ 80
+  pub in_time : s.tick ≤ s.unit * s.frames
   pub phased : Phased s
   pub within : DeadlinesWithin s
   pub jobs : FewJobs s

@@ -1,8 +1,8 @@
 pub mod Asked
-pub mod Bounds
 pub mod Changing
 pub mod Counts
 pub mod Keeping
+pub mod Levels
 pub mod Opened
 pub mod Phases
 pub mod Refusals

@@ -1,51 +1,33 @@
 -- The tables of a run as it is opened, and those of a run that was never opened; only contracts of private functions cite this.
-use Rattle.std.specs.Prelude.{◌≡◌, ℕ, suc, ◌+◌, ◌-◌, ◌<◌, ◌≤◌, List, [], ◌∷◌, length, take, drop, replicate, None, Ok, Err, Option, Result, slice_index, slice_index_or}
-use Rattle.packing.specs.declared.level.Level.{Level as PlanLevel}
+use Rattle.std.specs.Prelude.{◌≡◌, ℕ, suc, ◌-◌, ◌<◌, ◌≤◌, List, [], ◌∷◌, length, drop, None, Ok, Err, Option, Result, slice_index, slice_index_or}
 use Rattle.packing.specs.declared.plan.Plan.{Plan}
 use Rattle.packing.specs.declared.opening.OpeningRefusal.{OpeningRefusal}
 use Rattle.packing.specs.Fitting.{Rule}
 use Rattle.packing.specs.Plan.{all_tasks, idle, spare, OneSmallPlan}
 use Rattle.packing.specs.Openings.{OpeningAllowed, FirstOfOpening}
-use Rattle.packing.specs.Tables.{over, levels_in, packing_in}
+use Rattle.packing.specs.Tables.{levels_in}
 use Rattle.cores.specs.Placing.{blank}
 use Rattle.levels.specs.declared.server.Server.{Server}
-use Rattle.levels.specs.Items.{no_server}
 use Rattle.levels.specs.Running as theory
-use Rattle.levels.specs.Opening.{unbegun, homes_in, opening, servers_of}
-use Rattle.run.specs.declared.state.Level.{Level}
+use Rattle.levels.specs.Opening.{unbegun, homes_in, opening}
 use Rattle.run.specs.declared.state.State.{State}
 use Rattle.run.specs.declared.task.Event.TheVariants.{Announce}
 use Rattle.run.specs.declared.task.Phase.TheVariants.{AtWork, Awaited}
 use Rattle.run.specs.declared.task.Task.{Task}
-use Rattle.run.specs.Bounds.{Bounds}
 use Rattle.run.specs.Keeping.{Phased, DeadlinesWithin, FewJobs}
 use Rattle.run.specs.Phases.{next}
 use Rattle.run.specs.Views.{view, machine, task_at}
 
--- ---- the plan, and what it has to be for the tables
+-- ---- the plan
 
 -- The rates of all tasks.
 abbrev pub rates_in : Plan → List ℕ
-rates_in p = take p.tasks p.rates
+rates_in p = p.rates.items
 
--- Level k in the table of a plan.
-abbrev pub plan_level : Plan → ℕ → PlanLevel
-plan_level p k = slice_index_or p.levels k (record { homes = []; items = 0; rates = []; servers = 0 })
-
--- What the plan counts is in its tables, and is not more than the tables of a run have room for.
-pub record Small (p : Plan) : Type 0 where
-  pub few_tasks : p.tasks ≤ 80
-  pub rates_known : p.tasks ≤ length p.rates
-  pub few_levels : p.depth ≤ 5
-  pub levels_known : p.depth ≤ length p.levels
-  pub few_servers : (k : ℕ) → k < p.depth → (plan_level p k).servers ≤ 31
-  pub servers_known : (k : ℕ) → k < p.depth → (plan_level p k).servers ≤ length (plan_level p k).rates
-
--- Such a plan of a load within the limits.
+-- The plan of a load within the limits, of which so many tasks are the sheet's.
 pub record Fits (p : Plan) (cores frames sheet : ℕ) : Type 0 where
-  pub small : Small p
-  pub sheet_tasks : sheet ≤ p.tasks
-  pub rated : (i : ℕ) → i < p.tasks → 1 ≤ slice_index (rates_in p) i
+  pub sheet_tasks : sheet ≤ length p.rates.items
+  pub rated : (i : ℕ) → i < length p.rates.items → 1 ≤ slice_index p.rates.items i
   pub few_cores : cores ≤ 16
   pub a_unit : 1 ≤ p.unit
   pub small_unit : p.unit ≤ 1000
@@ -66,27 +48,13 @@ abbrev pub each : {X : Type 0} → (ℕ → Option ℕ → X) → List ℕ → L
 each make [] homes = []
 each make (rate ∷ rest) homes = make rate (slice_index_or homes 0 None) ∷ each make rest (drop 1 homes)
 
--- Task i of a plan, and server j of its level k.
-abbrev pub planned_task : Plan → ℕ → Task
-planned_task p i = unbegun_task (slice_index p.rates i) (slice_index_or (homes_in (levels_in p)) i None)
-
-abbrev pub planned_server : Plan → ℕ → ℕ → Server
-planned_server p k j = unbegun_server (slice_index (plan_level p k).rates j) (slice_index_or (homes_in (drop (k + 1) (levels_in p))) j None)
-
--- All its tasks, and all servers of its level k.
+-- All tasks of a plan.
 abbrev pub planned_tasks : Plan → List Task
 planned_tasks p = each unbegun_task (rates_in p) (homes_in (levels_in p))
-
-abbrev pub planned_servers : Plan → ℕ → List Server
-planned_servers p k = servers_of (packing_in (plan_level p k)).rates (homes_in (drop (k + 1) (levels_in p)))
 
 -- A task that begins the job announced for it.
 abbrev pub begun_to : ℕ → Task → Task
 begun_to frames t = next t (Announce frames)
-
--- Servers in the table of a level.
-abbrev pub level_table : List Server → Level
-level_table ss = record { servers = over ss (replicate 31 no_server); count = length ss }
 
 -- ---- the run
 
@@ -101,19 +69,19 @@ pub record Filled (p : Plan) (cores frames sheet : ℕ) (s : State) : Type 0 whe
   pub runs_on : machine s ≡ record { unit = p.unit; frames = frames; cores = cores }
   pub starts : s.tick ≡ 0
   pub sheet_tasks : s.sheet ≡ sheet
-  pub all_tasks : s.count ≡ p.tasks
-  pub all_levels : s.depth ≡ p.depth
-  pub begun : s.jobs ≡ p.tasks - sheet
+  pub all_tasks : s.count ≡ length p.rates.items
+  pub all_levels : length s.levels.items ≡ length p.levels.items
+  pub begun : s.jobs ≡ length p.rates.items - sheet
   pub unpreempted : s.preemptions ≡ 0
   pub unplaced : s.placing ≡ blank
-  pub none_unfinished : s.unfinished.count ≡ 0
+  pub none_unfinished : s.unfinished.items ≡ []
   -- a task of the sheet is awaited, and an idle one is at work
   pub awaited : (i : ℕ) → i < sheet → (task_at s i).phase ≡ Awaited
-  pub at_work : (i : ℕ) → sheet ≤ i → i < p.tasks → (task_at s i).phase ≡ AtWork
+  pub at_work : (i : ℕ) → sheet ≤ i → i < length p.rates.items → (task_at s i).phase ≡ AtWork
   pub phased : Phased s
   pub within : DeadlinesWithin s
   pub few_jobs : FewJobs s
-  pub bounds : Bounds s
+  pub table : length s.tasks ≡ 80
 
 -- An allowed opening, and the tables of its run over the plan of its tasks.
 pub record Opens (rule : Rule) (cores unit frames : ℕ) (sheet : List ℕ) (s : State) : Type 0 where
@@ -126,11 +94,11 @@ pub record Opens (rule : Rule) (cores unit frames : ℕ) (sheet : List ℕ) (s :
   pub begun : s.jobs ≡ length (idle unit (spare cores unit sheet))
   pub unpreempted : s.preemptions ≡ 0
   pub unplaced : s.placing ≡ blank
-  pub none_unfinished : s.unfinished.count ≡ 0
+  pub none_unfinished : s.unfinished.items ≡ []
   pub phased : Phased s
   pub within : DeadlinesWithin s
   pub few_jobs : FewJobs s
-  pub bounds : Bounds s
+  pub table : length s.tasks ≡ 80
 
 -- The opening is refused, by the row that counts, or its run is opened.
 abbrev pub Opened : Rule → ℕ → ℕ → ℕ → List ℕ → Result State OpeningRefusal → Type 0
@@ -145,8 +113,8 @@ pub record NeverOpened (s : State) : Type 0 where
   pub unbegun : s.jobs ≡ 0
   pub unpreempted : s.preemptions ≡ 0
   pub unplaced : s.placing ≡ blank
-  pub none_unfinished : s.unfinished.count ≡ 0
+  pub none_unfinished : s.unfinished.items ≡ []
   pub phased : Phased s
   pub within : DeadlinesWithin s
   pub few_jobs : FewJobs s
-  pub bounds : Bounds s
+  pub table : length s.tasks ≡ 80

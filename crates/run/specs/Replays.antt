@@ -9,16 +9,20 @@ use Rattle.ledger.specs.Calls.{History}
 use Rattle.ledger.specs.Ledger.{fresh, Conforms}
 use Rattle.ledger.specs.Openings.{Opening, Granted, opening_of}
 use Rattle.ledger.specs.Scheduler.{Reached}
-use Rattle.run.specs.declared.call.Answer.{Answer}
-use Rattle.run.specs.declared.call.Answer.TheVariants.{Refused, Done, Named, Number, Truth}
 use Rattle.run.specs.declared.call.Call.{Call}
 use Rattle.run.specs.declared.call.Call.TheVariants.{Announce, Tick, Ask}
 use Rattle.run.specs.declared.call.Question.{Question}
 use Rattle.run.specs.declared.call.Question.TheVariants.{PresentTick, Left, Deadline, Awaited, Reductions, Jobs, Preemptions}
+use Rattle.run.specs.declared.call.Reply.{Reply}
+use Rattle.run.specs.declared.call.Reply.TheVariants.{Done, Named, Number, Truth}
 use Rattle.run.specs.declared.refusal.Refusal.{Refusal}
 use Rattle.run.specs.declared.state.State.{State}
 use Rattle.run.specs.Refusals.{told}
 use Rattle.run.specs.Runs.{run_of, setting_of, Follows, OpenedRun, Ticked, ticked_as}
+
+-- The answer to a call: the reply, or why it is refused.
+abbrev pub Answer : Type 0
+Answer = Result Reply Refusal
 
 -- Each question, call and answer, as the ledger knows it. A refusal is its number, and the task that it names.
 abbrev pub question_of : Question → ledger.Question
@@ -35,12 +39,15 @@ call_of (Announce i d) = ledger.announce i d
 call_of (Tick n) = ledger.tick n
 call_of (Ask q) = ledger.ask (question_of q)
 
+abbrev pub reply_of : Reply → ledger.Answer
+reply_of Done = ledger.done
+reply_of (Named l) = ledger.named (take l.cores l.tasks)
+reply_of (Number n) = ledger.number n
+reply_of (Truth b) = ledger.truth b
+
 abbrev pub answer_of : Answer → ledger.Answer
-answer_of (Refused e) = told e
-answer_of Done = ledger.done
-answer_of (Named l) = ledger.named (take l.cores l.tasks)
-answer_of (Number n) = ledger.number n
-answer_of (Truth b) = ledger.truth b
+answer_of (Ok r) = reply_of r
+answer_of (Err e) = told e
 
 -- Calls with their answers, as far as both lists go.
 abbrev pub history_of : List Call → List Answer → History

@@ -17,14 +17,14 @@ use Rattle.ledger.specs.Theorems.{CallConforms, FreshRun}
 use Rattle.run.specs.declared.refusal.Refusal.{Refusal}
 use Rattle.run.specs.declared.state.State.{State}
 use Rattle.run.specs.Refusals.{told}
-use Rattle.run.specs.Views.{view, machine, numbers_of}
+use Rattle.run.specs.Views.{view, machine}
 
 -- What the run is set to, and what changes.
 abbrev pub setting_of : Rule → State → Setting
 setting_of choose s = record { machine = machine s; tasks = s.sheet; choose = choose }
 
 abbrev pub run_of : State → Run
-run_of s = record { state = view s; jobs = s.jobs; preemptions = s.preemptions; before = λ i. member i (numbers_of s.unfinished) }
+run_of s = record { state = view s; jobs = s.jobs; preemptions = s.preemptions; before = λ i. member i s.unfinished.items }
 
 -- The figures that answers go by. No rule counts for them; so that of a rule that names none will do.
 abbrev pub figures_of : State → Figures
@@ -45,9 +45,9 @@ truth_told (Ok b) = truth b
 truth_told (Err e) = told e
 
 -- A refusal, if there is one.
-abbrev pub refusal_told : Option Refusal → Option Answer
-refusal_told None = None
-refusal_told (Some e) = Some (told e)
+abbrev pub refusal_told : {Done : Type 0} → Result Done Refusal → Option Answer
+refusal_told (Ok _) = None
+refusal_told (Err e) = Some (told e)
 
 -- ---- what follows from a call
 

@@ -1,5 +1,5 @@
 -- What a frame start and a tick do to the tables, level by level; only contracts of private functions cite this.
-use Rattle.std.specs.Prelude.{◌≡◌, ℕ, zero, suc, ◌<◌, Bool, true, false, cond, List, [], ◌∷◌, Some, None, Option, slice_set}
+use Rattle.std.specs.Prelude.{◌≡◌, ℕ, zero, suc, ◌<◌, Bool, true, false, cond, List, [], ◌∷◌, length, Some, None, Option, slice_set}
 use Rattle.std.specs.List.{AllByRecursion}
 use Rattle.packing.specs.Packing.{at_home}
 use Rattle.choosing.specs.Choosing.{Rule}
@@ -11,10 +11,9 @@ use Rattle.levels.specs.Ticking.{always, named, picked, picks, spend_items, spen
 use Rattle.levels.specs.Renewing.{renew_servers}
 use Rattle.levels.specs.Running.{runs, step}
 use Rattle.levels.specs.Sums.{passing}
-use Rattle.run.specs.Bounds.{Bounds, level_at}
 use Rattle.run.specs.Phases.{next}
-use Rattle.run.specs.Changing.{with_all, with_levels, with_tables}
-use Rattle.run.specs.Views.{flags, level_servers, levels_of, machine, task_at, tasks_of, view}
+use Rattle.run.specs.Changing.{with_all, with_level, with_tables}
+use Rattle.run.specs.Views.{flags, level_at, levels_of, machine, task_at, tasks_of, view}
 use Rattle.run.specs.declared.state.State.{State}
 use Rattle.run.specs.declared.task.Event.TheVariants.{Tick}
 use Rattle.run.specs.declared.task.Task.{Task}
@@ -23,7 +22,7 @@ use Rattle.run.specs.declared.task.Task.{Task}
 
 -- The servers of level k, and the items that it packs.
 abbrev pub servers_at : State → ℕ → List Server
-servers_at s k = level_servers (level_at s k)
+servers_at s k = (level_at s k).items
 
 abbrev pub items_at : State → ℕ → List Item
 items_at s k = packed s.unit (tasks_of s) (levels_of s) k
@@ -67,20 +66,15 @@ names rule s i = named (always rule) s.unit (tasks_of s) (levels_of s) i
 abbrev pub names_at : Rule → State → ℕ → (ℕ → Bool) → ℕ → Bool
 names_at rule s k dual_named i = picked (picks (λ _. rule) (items_at s k) (servers_at s k) dual_named) (items_at s k) i
 
--- Only level k is another.
-pub record Alone (entry exit : State) (k : ℕ) : Type 0 where
-  pub only : exit ≡ with_levels entry (slice_set entry.levels k (level_at exit k))
-  pub bounds : Bounds exit
-
--- Level k has run: its servers or their duals have spent the tick.
+-- Level k has run: its servers or their duals have spent the tick. Only that level is another.
 pub record Ran (entry exit : State) (k : ℕ) (dual_named : List Bool) : Type 0 where
   pub spends : servers_at exit k ≡ spend_servers (flags dual_named) (servers_at entry k)
-  pub alone : Alone entry exit k
+  pub alone : exit ≡ with_level entry k (level_at exit k)
 
--- Level k is renewed at frame f.
+-- Level k is renewed at frame f. Only that level is another.
 pub record Renewed (entry exit : State) (k f : ℕ) : Type 0 where
   pub renews : servers_at exit k ≡ renew_servers entry.unit entry.frames f (items_at entry k) 0 (servers_at entry k)
-  pub alone : Alone entry exit k
+  pub alone : exit ≡ with_level entry k (level_at exit k)
 
 -- All levels have run, and these are the numbers of the tasks that are named.
 pub record RanAll (rule : Rule) (entry exit : State) (numbers : List ℕ) : Type 0 where
@@ -91,7 +85,7 @@ pub record RanAll (rule : Rule) (entry exit : State) (numbers : List ℕ) : Type
   pub exactly : Names (names rule entry) numbers
   pub below : AllByRecursion (λ i. i < entry.count) numbers
   pub kept : exit ≡ with_tables entry exit.tasks exit.levels
-  pub bounds : Bounds exit
+  pub table : length exit.tasks ≡ 80
 
 -- The run has gone on by one step of the theory, and these are the numbers of the tasks that run in it.
 pub record GoneOn (rule : Rule) (entry exit : State) (numbers : List ℕ) : Type 0 where
@@ -102,4 +96,4 @@ pub record GoneOn (rule : Rule) (entry exit : State) (numbers : List ℕ) : Type
   pub exactly : Names (runs (always rule) (machine entry) (view entry)) numbers
   pub below : AllByRecursion (λ i. i < entry.count) numbers
   pub kept : exit ≡ with_all entry (suc entry.tick) exit.tasks exit.levels
-  pub bounds : Bounds exit
+  pub table : length exit.tasks ≡ 80

@@ -1,12 +1,11 @@
 -- The tables of a run, read as the lists that the theory of runs speaks of.
-use Rattle.std.specs.Prelude.{ℕ, Bool, false, List, map, take, None, slice_index_or}
+use Rattle.std.specs.Prelude.{ℕ, Bool, false, List, [], map, take, None, slice_index_or}
+use Rattle.arrayvec.specs.ArrayVec.{ArrayVec}
 use Rattle.choosing.specs.Balance.{nothing}
 use Rattle.levels.specs.declared.item.Item.{Item}
 use Rattle.levels.specs.declared.server.Server.{Server}
 use Rattle.levels.specs.Running as theory
-use Rattle.run.specs.declared.state.Level.{Level}
 use Rattle.run.specs.declared.state.State.{State}
-use Rattle.run.specs.declared.state.TaskList.{TaskList}
 use Rattle.run.specs.declared.task.Phase.TheVariants.{Served}
 use Rattle.run.specs.declared.task.Task.{Task}
 
@@ -18,14 +17,18 @@ item_of t = record { share = t.share; home = t.home }
 abbrev pub tasks_of : State → List Item
 tasks_of s = map item_of (take s.count s.tasks)
 
-abbrev pub level_servers : Level → List Server
-level_servers l = take l.count l.servers
+abbrev pub level_servers : ArrayVec Server → List Server
+level_servers l = l.items
 
 abbrev pub levels_of : State → List (List Server)
-levels_of s = map level_servers (take s.depth s.levels)
+levels_of s = map level_servers s.levels.items
 
-abbrev pub numbers_of : TaskList → List ℕ
-numbers_of l = take l.count l.tasks
+-- Level k; above the top stands one without servers.
+abbrev pub no_level : ArrayVec Server
+no_level = record { items = [] }
+
+abbrev pub level_at : State → ℕ → ArrayVec Server
+level_at s k = slice_index_or s.levels.items k no_level
 
 -- The state and the machine of the theory.
 abbrev pub view : State → theory.State

@@ -1,6 +1,5 @@
 //! A task gets its next job.
 ghost use Rattle.std.specs.Prelude.{◌≡◌, ◌+◌, ◌^◌, ◌<◌, ◌≤◌, slice_set};
-ghost use Rattle.run.specs.Bounds.{Bounds};
 ghost use Rattle.run.specs.Views.{task_at};
 ghost use Rattle.run.specs.Changing.{with_job};
 ghost use Rattle.run.specs.Phases.{next};
@@ -11,7 +10,6 @@ use crate::task::Event;
 
 /// Begins the next job of a task, up to this deadline.
 pub(crate) fn begin_job(state: &mut State, task: usize, deadline: u32)
-    requires bounds { Bounds state.old }
     requires known { task < state.old.count }
     requires within { deadline ≤ 65535 }
     requires fits { state.old.jobs + 1 < 2 ^ 64 }

@@ -1,5 +1,6 @@
 //! Calls of a run and their answers, as values.
 use crate::refusal::Refusal;
+use cores::CORES;
 
 /// A question, of the run or of a task of the sheet.
 #[derive(Clone, Copy)]
@@ -26,14 +27,13 @@ pub enum Call {
 /// The task on each core: the first `cores` of the table.
 #[derive(Clone, Copy)]
 pub struct CoreList {
-    pub tasks: [u8; 16],
+    pub tasks: [u8; CORES],
     pub cores: usize,
 }
 
-/// The answer to a call.
+/// What a call that is not refused is answered.
 #[derive(Clone, Copy)]
-pub enum Answer {
-    Refused(Refusal),
+pub enum Reply {
     /// an announcement was granted
     Done,
     /// a tick was granted
@@ -41,3 +41,6 @@ pub enum Answer {
     Number(u64),
     Truth(bool),
 }
+
+/// The answer to a call: the reply, or why it is refused.
+pub type Answer = Result<Reply, Refusal>;

@@ -1,132 +1,102 @@
 //! The tables of a run, filled from its plan.
-ghost use Rattle.std.specs.Prelude.{◌≡◌, ◌<◌, ◌≤◌, ◌++◌, map, take, drop, None, slice_index_or};
+ghost use Rattle.std.specs.Prelude.{◌≡◌, ◌≤◌, length, map, drop, None, slice_index_or};
 ghost use Rattle.packing.specs.Tables.{over, levels_in};
-ghost use Rattle.levels.specs.Opening.{homes_in, servers_in};
-ghost use Rattle.run.specs.Opened.{begun_to, Filled, Fits, level_table, Opened, plan_level, planned_server, planned_servers, planned_task, planned_tasks, Small};
+ghost use Rattle.levels.specs.Opening.{homes_in, servers_in, servers_of, unbegun};
+ghost use Rattle.run.specs.Views.{level_servers};
+ghost use Rattle.run.specs.Opened.{Filled, Fits, Opened, planned_tasks, unbegun_server, unbegun_task};
 
-use crate::limits::{LEVELS, SERVERS, TASKS};
-use crate::state::{Level, State, TaskList};
-use crate::task::{Event, Phase, Task};
+use crate::state::State;
+use crate::task::{Event, Phase, Task, all_on};
+use arrayvec::ArrayVec;
 use choosing::Share;
 use cores::Cores;
 use levels::Server;
-use packing::{Fitting, OpeningRefusal, Plan};
+use packing::{Fitting, LEVELS, Opening, OpeningRefusal, Plan, SERVERS, TASKS};
 
 /// The home that a level of the plan gives an item; there is none above the top.
 fn home_in(plan: &Plan, level: usize, item: usize) -> Option<u8>
-    requires { Small plan.now }
     ensures { result ≡ slice_index_or (homes_in (drop level (levels_in plan.now))) item None }
 {
-    if level < plan.depth {
-        plan.levels[level].home(item)
-    } else {
-        None
+    plan.levels.get(level)?.home(item)
+}
+
+/// A share before any job.
+fn unbegun(rate: u16) -> Share
+    ensures { result ≡ unbegun rate }
+{
+    Share {
+        rate,
+        ..Share::default()
     }
 }
 
-/// A task of the plan before any job: its first is awaited.
-fn planned_task(plan: &Plan, task: usize) -> Task
-    requires { (Small plan.now) × (task < plan.now.tasks) }
-    ensures { result ≡ planned_task plan.now task }
+/// A task before any job: its first is awaited.
+fn unbegun_task(rate: u16, home: Option<u8>) -> Task
+    ensures { result ≡ unbegun_task rate home }
 {
     Task {
-        share: Share {
-            left: 0,
-            rate: plan.rates[task],
-            deadline: 0,
-        },
-        home: home_in(plan, 0, task),
+        share: unbegun(rate),
+        home,
         phase: Phase::Awaited,
     }
 }
 
-/// A server of a level of the plan, before any job.
-fn planned_server(plan: &Plan, level: usize, server: usize) -> Server
-    requires { (Small plan.now) × ((level < plan.now.depth) × (server < (plan_level plan.now level).servers)) }
-    ensures { result ≡ planned_server plan.now level server }
+/// A server before any job.
+fn unbegun_server(rate: u16, home: Option<u8>) -> Server
+    ensures { result ≡ unbegun_server rate home }
 {
     Server {
-        share: Share {
-            left: 0,
-            rate: plan.levels[level].rates[server],
-            deadline: 0,
-        },
+        share: unbegun(rate),
         dual: 0,
-        home: home_in(plan, level + 1, server),
+        home,
     }
 }
 
 /// Writes the tasks of the plan, before any job.
 fn fill_tasks(plan: &Plan, tasks: &mut [Task; TASKS])
-    requires { Small plan.now }
     ensures { tasks.new ≡ over (planned_tasks plan.now) tasks.old }
 {
-    for i in 0..plan.tasks {
-        tasks[i] = planned_task(plan, i);
+    for (i, rate) in plan.rates.iter().enumerate() {
+        tasks[i] = unbegun_task(*rate, home_in(plan, 0, i));
     }
 }
 
-/// A task with the job that is announced for it, if it awaits one.
-fn begun(task: Task, deadline: u32) -> Task
-    requires { deadline ≤ 65535 }
-    ensures { result ≡ begun_to deadline task }
+/// The servers of these rates, before any job, whose duals are items of this level of the plan.
+fn servers_of(plan: &Plan, rates: &[u16], above: usize) -> ArrayVec<Server, SERVERS>
+    requires { length rates.now ≤ 31 }
+    ensures { result.items ≡ servers_of rates.now (homes_in (drop above (levels_in plan.now))) }
 {
-    let mut begun = task;
-    begun.on(Event::Announce { deadline });
-    begun
-}
-
-/// The idle tasks, which come after those of the sheet, begin their jobs, with the end of the run as their deadline.
-fn begin_idle(tasks: &mut [Task; TASKS], sheet: usize, count: usize, frames: u32)
-    requires { (sheet ≤ count) × ((count ≤ 80) × (frames ≤ 65535)) }
-    ensures { tasks.new ≡ over (take sheet tasks.old ++ map (begun_to frames) (drop sheet (take count tasks.old))) tasks.old }
-{
-    for i in sheet..count {
-        tasks[i] = begun(tasks[i], frames);
+    let mut servers = ArrayVec::new();
+    for (j, rate) in rates.iter().enumerate() {
+        servers.push(unbegun_server(*rate, home_in(plan, above, j)));
     }
+    servers
 }
 
-/// Writes the servers of a level of the plan, before any job.
-fn fill_servers(plan: &Plan, level: usize, servers: &mut [Server; SERVERS])
-    requires { (Small plan.now) × (level < plan.now.depth) }
-    ensures { servers.new ≡ over (planned_servers plan.now level) servers.old }
+/// The levels of the plan.
+fn levels_of(plan: &Plan) -> ArrayVec<ArrayVec<Server, SERVERS>, LEVELS>
+    ensures { map level_servers result.items ≡ servers_in (levels_in plan.now) }
 {
-    for j in 0..plan.levels[level].servers {
-        servers[j] = planned_server(plan, level, j);
+    let mut levels = ArrayVec::new();
+    for (k, level) in plan.levels.iter().enumerate() {
+        levels.push(servers_of(plan, &level.rates, k + 1));
     }
+    levels
 }
 
-/// A level of the plan, before any job.
-fn level_of(plan: &Plan, level: usize) -> Level
-    requires { (Small plan.now) × (level < plan.now.depth) }
-    ensures { result ≡ level_table (planned_servers plan.now level) }
-{
-    let mut table = Level::BLANK;
-    fill_servers(plan, level, &mut table.servers);
-    table.count = plan.levels[level].servers;
-    table
-}
-
-/// Writes the levels of the plan.
-fn fill_levels(plan: &Plan, levels: &mut [Level; LEVELS])
-    requires { Small plan.now }
-    ensures { levels.new ≡ over (map level_table (servers_in (levels_in plan.now))) levels.old }
-{
-    for k in 0..plan.depth {
-        levels[k] = level_of(plan, k);
-    }
-}
-
-/// The tables of a run as it is opened over its plan, for so many tasks of the sheet.
+/// The tables of a run as it is opened over its plan, for so many tasks of the sheet. The idle tasks, which come after these,
+/// begin their jobs, with the end of the run as their deadline.
 pub(crate) fn filled(plan: &Plan, cores: u32, frames: u32, sheet: usize) -> State
     requires { Fits plan.now cores frames sheet }
     ensures { Filled plan.now cores frames sheet result }
 {
     let mut tasks = [Task::BLANK; TASKS];
     fill_tasks(plan, &mut tasks);
-    begin_idle(&mut tasks, sheet, plan.tasks, frames);
-    let mut levels = [Level::BLANK; LEVELS];
-    fill_levels(plan, &mut levels);
+    let count = plan.rates.len();
+    all_on(
+        &mut tasks[sheet..count],
+        Event::Announce { deadline: frames },
+    );
     State {
         cores,
         unit: u32::from(plan.unit),
@@ -134,27 +104,21 @@ pub(crate) fn filled(plan: &Plan, cores: u32, frames: u32, sheet: usize) -> Stat
         tick: 0,
         sheet,
         tasks,
-        count: plan.tasks,
-        levels,
-        depth: plan.depth,
-        jobs: (plan.tasks - sheet) as u64,
+        count,
+        levels: levels_of(plan),
+        jobs: (count - sheet) as u64,
         preemptions: 0,
         placing: Cores::new(),
-        unfinished: TaskList::NONE,
+        unfinished: ArrayVec::new(),
     }
 }
 
-/// The tables of a run of tasks of these rates, or the refusal of the opening.
-pub(crate) fn open_tables<F: Fitting>(
-    rule: &F,
-    cores: u32,
-    unit: u32,
-    frames: u32,
-    rates: &[u16],
-) -> Result<State, OpeningRefusal>
-    ensures { Opened (F.fits rule.now) cores unit frames rates.now result }
+/// The tables of a run as this opening opens it, or the refusal of the opening.
+pub(crate) fn open_tables<F: Fitting>(rule: &F, opening: &Opening) -> Result<State, OpeningRefusal>
+    ensures { Opened (F.fits rule.now) opening.now.load.cores opening.now.load.unit opening.now.frames opening.now.load.rates.now result }
 {
     let mut plan = Plan::blank();
-    plan.make_for_run(rule, cores, unit, frames, rates)?;
-    Ok(filled(&plan, cores, frames, rates.len()))
+    plan.make_for_run(rule, opening)?;
+    let load = opening.load;
+    Ok(filled(&plan, load.cores, opening.frames, load.rates.len()))
 }

@@ -4,11 +4,11 @@
 mod announcing;
 mod asking;
 mod call;
+mod clients;
 mod counting;
 mod filling;
 mod frame;
-mod items;
-mod limits;
+mod level;
 mod naming;
 mod refusal;
 mod refusing;
@@ -21,7 +21,7 @@ mod task;
 mod ticking;
 mod turning;
 
-pub use call::{Answer, Call, CoreList, Question};
+pub use call::{Answer, Call, CoreList, Question, Reply};
 pub use refusal::Refusal;
 pub use replaying::replay;
 pub use run::Run;

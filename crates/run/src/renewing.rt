@@ -1,15 +1,15 @@
 //! What a frame start does to the servers of a level.
-ghost use Rattle.std.specs.Prelude.{◌≡◌, ◌<◌, ◌≤◌, take};
+ghost use Rattle.std.specs.Prelude.{◌≡◌, ◌≤◌};
 ghost use Rattle.levels.specs.Items.{clients};
 ghost use Rattle.levels.specs.Renewing.{least_deadline, renew_server, renew_servers, server_with_job};
-ghost use Rattle.run.specs.Bounds.{Bounds, level_at};
-ghost use Rattle.run.specs.Turns.{items_at};
+ghost use Rattle.run.specs.Levels.{items_of, servers_of};
 
-use crate::items::{NO_SHARE, clients_of};
-use crate::limits::{SERVERS, TASKS};
-use crate::state::State;
+use crate::clients::Clients;
+use crate::level::Level;
+use arrayvec::ArrayVec;
 use choosing::Share;
 use levels::Server;
+use packing::SERVERS;
 
 /// The least deadline of some clients, and at most the number of frames.
 fn least_deadline(clients: &[Share], frames: u32) -> u32
@@ -17,8 +17,8 @@ fn least_deadline(clients: &[Share], frames: u32) -> u32
     ensures most { result ≤ frames }
 {
     let mut best = frames;
-    for i in 0..clients.len() {
-        best = clients[i].deadline.min(best);
+    for client in clients {
+        best = client.deadline.min(best);
     }
     best
 }
@@ -33,50 +33,34 @@ fn with_job(server: Server, unit: u32, frame: u32, deadline: u32) -> Server
     Server {
         share: Share {
             left: rate * frames,
-            rate: server.share.rate,
             deadline,
+            ..server.share
         },
         dual: unit.saturating_sub(rate) * frames,
-        home: server.home,
+        ..server
     }
 }
 
 /// A server at a frame start: one whose deadline it is takes the least deadline of its clients.
-fn renewed(
-    server: Server,
-    state: &State,
-    level: usize,
-    place: usize,
-    frame: u32,
-    shares: &mut [Share; TASKS],
-    places: &mut [u8; TASKS],
-) -> Server
-    requires bounds { Bounds state.now }
-    requires within { level < state.now.depth }
-    ensures { result ≡ renew_server state.now.unit state.now.frames frame (clients (items_at state.now level) place) server }
+fn renewed(server: Server, level: &Level, place: usize, frame: u32, copied: &mut Clients) -> Server
+    ensures { result ≡ renew_server level.now.state.now.unit level.now.state.now.frames frame (clients (items_of level.now) place) server }
 {
     if server.share.deadline != frame {
         return server;
     }
-    let n = clients_of(state, level, place, shares, places);
-    let deadline = least_deadline(&shares[0..n], state.frames);
-    with_job(server, state.unit, frame, deadline)
+    copied.copy_out(level, place);
+    let deadline = least_deadline(&copied.shares, level.state.frames);
+    with_job(server, level.state.unit, frame, deadline)
 }
 
-/// Renews the servers of a level in a table of their own.
-pub(crate) fn renew_servers(
-    state: &State,
-    level: usize,
-    frame: u32,
-    servers: &mut [Server; SERVERS],
-)
-    requires bounds { Bounds state.now }
-    requires within { level < state.now.depth }
-    ensures { take (level_at state.now level).count servers.new ≡ renew_servers state.now.unit state.now.frames frame (items_at state.now level) 0 (take (level_at state.now level).count servers.old) }
+/// The servers of a level at a frame start.
+pub(crate) fn renewed_servers(level: &Level, frame: u32) -> ArrayVec<Server, SERVERS>
+    ensures { result.items ≡ renew_servers level.now.state.now.unit level.now.state.now.frames frame (items_of level.now) 0 (servers_of level.now) }
 {
-    let mut shares = [NO_SHARE; TASKS];
-    let mut places = [0; TASKS];
-    for j in 0..state.levels[level].count {
-        servers[j] = renewed(servers[j], state, level, j, frame, &mut shares, &mut places);
+    let mut copied = Clients::default();
+    let mut servers = ArrayVec::new();
+    for (place, server) in level.servers().iter().enumerate() {
+        servers.push(renewed(*server, level, place, frame, &mut copied));
     }
+    servers
 }

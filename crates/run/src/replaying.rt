@@ -4,50 +4,19 @@ ghost use Rattle.ledger.specs.Calls.{ask, tick};
 ghost use Rattle.run.specs.Replays.{answer_of, call_of, history_of, question_of, AllAnswered, Answered, GoesOnBy, Replayed, TickAnswered};
 ghost use Rattle.run.specs.Runs.{Follows, Lawfully, announced, number_told, truth_told};
 
-use crate::call::{Answer, Call, CoreList, Question};
-use crate::refusal::Refusal;
+use crate::call::{Answer, Call, CoreList, Question, Reply};
 use crate::run::Run;
 use choosing::Choosing;
-use packing::Fitting;
-
-/// A number that a question is answered, or its refusal.
-fn number_or_refused(answer: Result<u32, Refusal>) -> Answer
-    ensures { answer_of result ≡ number_told answer }
-{
-    match answer {
-        Ok(number) => Answer::Number(u64::from(number)),
-        Err(refusal) => Answer::Refused(refusal),
-    }
-}
-
-/// A truth that a question is answered, or its refusal.
-fn truth_or_refused(answer: Result<bool, Refusal>) -> Answer
-    ensures { answer_of result ≡ truth_told answer }
-{
-    match answer {
-        Ok(truth) => Answer::Truth(truth),
-        Err(refusal) => Answer::Refused(refusal),
-    }
-}
-
-/// What an announcement is answered.
-fn done_or_refused(answer: Result<(), Refusal>) -> Answer
-    ensures { answer_of result ≡ announced answer }
-{
-    match answer {
-        Ok(()) => Answer::Done,
-        Err(refusal) => Answer::Refused(refusal),
-    }
-}
+use cores::CORES;
+use packing::{Fitting, Opening, OpeningRefusal};
 
 /// The front of a core list; what it lacks is 0.
-fn front(list: &[u8]) -> [u8; 16]
+fn front(list: &[u8]) -> [u8; CORES]
     ensures { (k : ℕ) → k < 16 → k < length list.now → slice_index result k ≡ slice_index list.now k }
 {
-    let mut tasks = [0; 16];
-    for core in 0..list.len().min(16) {
-        tasks[core] = list[core];
-    }
+    let mut tasks = [0; CORES];
+    let cores = list.len().min(CORES);
+    tasks[..cores].copy_from_slice(&list[..cores]);
     tasks
 }
 
@@ -59,52 +28,43 @@ impl<C: Choosing> Run<C> {
         ensures law { Lawfully (C.chosen self.old.rule) self.old.state (call_of call) (answer_of result) self.new.state }
     {
         match call {
-            Call::Announce { task, deadline } => done_or_refused(self.announce(task, deadline)),
+            Call::Announce { task, deadline } => self
+                .announce(task, deadline)
+                .map(|()| Reply::Done),
             Call::Tick { entries } => self.tick_entries(entries),
             Call::Ask(question) => self.asked(question),
         }
     }
 
-    /// Ticks with this core list of so many entries, and answers the tasks on the cores.
-    fn tick_list(&mut self, list: &mut [u8], entries: u8) -> Answer
-        requires { length list.old ≡ entries }
-        ensures rule { self.new.rule ≡ self.old.rule }
-        ensures answered { TickAnswered (C.chosen self.old.rule) self.old.state entries result self.new.state }
-        ensures law { Lawfully (C.chosen self.old.rule) self.old.state (tick entries) (answer_of result) self.new.state }
-    {
-        let cores = self.state.cores as usize;
-        match self.tick(list) {
-            Ok(()) => Answer::Named(CoreList {
-                tasks: front(list),
-                cores,
-            }),
-            Err(refusal) => Answer::Refused(refusal),
-        }
-    }
-
-    /// Ticks with a core list of so many entries.
+    /// Ticks with a core list of so many entries, and answers the tasks on the cores.
     fn tick_entries(&mut self, entries: u8) -> Answer
         ensures rule { self.new.rule ≡ self.old.rule }
         ensures answered { TickAnswered (C.chosen self.old.rule) self.old.state entries result self.new.state }
         ensures law { Lawfully (C.chosen self.old.rule) self.old.state (tick entries) (answer_of result) self.new.state }
     {
+        let cores = self.state.cores as usize;
         let mut list = [0; 255];
-        self.tick_list(&mut list[0..entries as usize], entries)
+        let list = &mut list[..usize::from(entries)];
+        self.tick(list)?;
+        Ok(Reply::Named(CoreList {
+            tasks: front(list),
+            cores,
+        }))
     }
 
     /// Answers a question.
     fn asked(&self, question: Question) -> Answer
         ensures { Follows (C.chosen self.now.rule) self.now.state (ask (question_of question)) (answer_of result) self.now.state }
     {
-        match question {
-            Question::PresentTick => Answer::Number(u64::from(self.present_tick())),
-            Question::Left(task) => number_or_refused(self.left(task)),
-            Question::Deadline(task) => number_or_refused(self.deadline(task)),
-            Question::Awaited(task) => truth_or_refused(self.awaited(task)),
-            Question::Reductions => Answer::Number(self.reductions() as u64),
-            Question::Jobs => Answer::Number(self.jobs()),
-            Question::Preemptions => Answer::Number(self.preemptions()),
-        }
+        Ok(match question {
+            Question::PresentTick => Reply::Number(u64::from(self.present_tick())),
+            Question::Left(task) => Reply::Number(u64::from(self.left(task)?)),
+            Question::Deadline(task) => Reply::Number(u64::from(self.deadline(task)?)),
+            Question::Awaited(task) => Reply::Truth(self.awaited(task)?),
+            Question::Reductions => Reply::Number(self.reductions() as u64),
+            Question::Jobs => Reply::Number(self.jobs()),
+            Question::Preemptions => Reply::Number(self.preemptions()),
+        })
     }
 }
 
@@ -116,29 +76,24 @@ fn play<C: Choosing>(run: &mut Run<C>, calls: &[Call], answers: &mut [Answer]) -
     ensures behind { drop result answers.new ≡ drop result answers.old }
 {
     let count = calls.len().min(answers.len());
-    for i in 0..count {
-        answers[i] = run.put(calls[i]);
+    for (i, call) in calls[..count].iter().enumerate() {
+        answers[i] = run.put(*call);
     }
     count
 }
 
-/// Opens a run of a load under a fitting and a choosing rule and puts calls to it, one after the other, as long as there is
-/// room for their answers. Answers how many were put. A refused opening leaves the answers as they are.
+/// Opens a run under a fitting and a choosing rule and puts calls to it, one after the other, as long as there is room for
+/// their answers. Answers how many were put. A refused opening leaves the answers as they are.
 pub fn replay<F: Fitting, C: Choosing + Drop>(
     fitting: &F,
     rule: C,
-    cores: u32,
-    unit: u32,
-    frames: u32,
-    rates: &[u16],
+    opening: &Opening,
     calls: &[Call],
     answers: &mut [Answer],
-) -> Result<usize, packing::OpeningRefusal>
-    ensures { Replayed (F.fits fitting.now) (C.chosen rule) cores unit frames rates.now calls.now answers.old answers.new result }
+) -> Result<usize, OpeningRefusal>
+    ensures { Replayed (F.fits fitting.now) (C.chosen rule) opening.now.load.cores opening.now.load.unit opening.now.frames opening.now.load.rates.now calls.now answers.old answers.new result }
 {
     let mut run = Run::new(rule);
-    match run.open(fitting, cores, unit, frames, rates) {
-        Ok(()) => Ok(play(&mut run, calls, answers)),
-        Err(refusal) => Err(refusal),
-    }
+    run.open(fitting, opening)?;
+    Ok(play(&mut run, calls, answers))
 }

@@ -1,55 +1,14 @@
 //! The tables of a run.
-ghost use Rattle.run.specs.Opened.{NeverOpened};
+ghost use Rattle.std.specs.Prelude.{◌≡◌, ◌≤◌, ◌*◌, ◌/◌, ◌%◌, ◌==◌, nat_le};
 
-use crate::limits::{LEVELS, SERVERS, TASKS};
 use crate::task::Task;
-use choosing::Share;
+use arrayvec::ArrayVec;
 use cores::Cores;
 use levels::Server;
-
-/// A server without rate, job and home.
-pub(crate) const NO_SERVER: Server = Server {
-    share: Share {
-        left: 0,
-        rate: 0,
-        deadline: 0,
-    },
-    dual: 0,
-    home: None,
-};
-
-/// The servers of one level: the first `count` of the table.
-#[derive(Clone, Copy)]
-pub(crate) struct Level {
-    pub servers: [Server; SERVERS],
-    pub count: usize,
-}
-
-impl Level {
-    /// A level without servers.
-    pub const BLANK: Level = Level {
-        servers: [NO_SERVER; SERVERS],
-        count: 0,
-    };
-}
-
-/// Some tasks by number: the first `count` of the table.
-#[derive(Clone, Copy)]
-pub(crate) struct TaskList {
-    pub tasks: [u8; TASKS],
-    pub count: usize,
-}
-
-impl TaskList {
-    /// No task.
-    pub const NONE: TaskList = TaskList {
-        tasks: [0; TASKS],
-        count: 0,
-    };
-}
+use packing::{LEVELS, SERVERS, TASKS};
 
 /// All that a run knows, but its choosing rule.
-#[derive(Clone, Copy)]
+#[derive(Drop)]
 pub(crate) struct State {
     pub cores: u32,
     /// the ticks of a frame
@@ -63,20 +22,48 @@ pub(crate) struct State {
     pub tasks: [Task; TASKS],
     /// how many tasks there are, idle ones included
     pub count: usize,
-    /// the levels, the lowest first
-    pub levels: [Level; LEVELS],
-    /// how many levels there are
-    pub depth: usize,
+    /// the servers of each level, the lowest first
+    pub levels: ArrayVec<ArrayVec<Server, SERVERS>, LEVELS>,
     /// the jobs begun
     pub jobs: u64,
     pub preemptions: u64,
     /// where each task last ran
     pub placing: Cores,
     /// the tasks that the last granted tick named and that had left after it
-    pub unfinished: TaskList,
+    pub unfinished: ArrayVec<u8, TASKS>,
+    ghost few_tasks: { count ≤ 80 },
+    ghost sheet_tasks: { sheet ≤ count },
+    ghost few_cores: { cores ≤ 16 },
+    ghost small_unit: { unit ≤ 1000 },
+    ghost few_frames: { frames ≤ 65535 },
 }
 
 impl State {
+    ghost use Rattle.run.specs.Opened.{NeverOpened};
+
+    /// Whether the run is over.
+    pub fn is_over(&self) -> bool
+        ensures { result ≡ nat_le (self.now.unit * self.now.frames) self.now.tick }
+    {
+        self.tick >= self.unit * self.frames
+    }
+
+    /// The frame of the present tick.
+    pub fn frame(&self) -> u32
+        requires { 1 ≤ self.now.unit }
+        ensures { result ≡ self.now.tick / self.now.unit }
+    {
+        self.tick / self.unit
+    }
+
+    /// Whether a frame starts at the present tick.
+    pub fn starts_frame(&self) -> bool
+        requires { 1 ≤ self.now.unit }
+        ensures { result ≡ (self.now.tick % self.now.unit == 0) }
+    {
+        self.tick % self.unit == 0
+    }
+
     /// A run that was never opened.
     pub fn blank() -> State
         ensures { NeverOpened result }
@@ -89,12 +76,11 @@ impl State {
             sheet: 0,
             tasks: [Task::BLANK; TASKS],
             count: 0,
-            levels: [Level::BLANK; LEVELS],
-            depth: 0,
+            levels: ArrayVec::new(),
             jobs: 0,
             preemptions: 0,
             placing: Cores::new(),
-            unfinished: TaskList::NONE,
+            unfinished: ArrayVec::new(),
         }
     }
 }

@@ -1,8 +1,10 @@
 //! A task of a run, and what happens to it.
-ghost use Rattle.std.specs.Prelude.{◌≡◌, ◌≤◌};
+ghost use Rattle.std.specs.Prelude.{◌≡◌, ◌≤◌, map};
+ghost use Rattle.run.specs.Views.{item_of};
 ghost use Rattle.run.specs.Phases.{begun, next, phase_by_left, spent_in, is_awaited, WithinRun};
 
 use choosing::Share;
+use levels::Item;
 
 /// Where a task stands.
 #[derive(Clone, Copy)]
@@ -50,10 +52,7 @@ impl Phase {
     pub fn awaits(self) -> bool
         ensures { result ≡ is_awaited self }
     {
-        match self {
-            Phase::Awaited => true,
-            Phase::AtWork | Phase::Served => false,
-        }
+        matches!(self, Phase::Awaited)
     }
 }
 
@@ -68,6 +67,16 @@ impl Task {
         home: None,
         phase: Phase::Served,
     };
+
+    /// The task as an item of level 0.
+    pub fn item(self) -> Item
+        ensures { result ≡ item_of self }
+    {
+        Item {
+            share: self.share,
+            home: self.home,
+        }
+    }
 
     /// Begins a job from the present deadline to this one.
     fn begin(&mut self, deadline: u32)
@@ -84,7 +93,7 @@ impl Task {
     fn spend(&mut self)
         ensures { self.new ≡ spent_in self.old.phase self.old }
     {
-        self.share.left = self.share.left.saturating_sub(1);
+        self.share.spend();
     }
 
     /// Takes the task through an event. An awaited task gets the job that is announced for it; a tick takes one from what is
@@ -96,12 +105,11 @@ impl Task {
     {
         match (self.phase, event) {
             (Phase::Awaited, Event::Announce { deadline }) => self.begin(deadline),
-            (Phase::Awaited, Event::Tick) => self.spend(),
+            (Phase::Awaited | Phase::Served, Event::Tick) => self.spend(),
             (Phase::AtWork, Event::Tick) => {
                 self.spend();
                 self.phase = Phase::by_left(self.share.left);
             }
-            (Phase::Served, Event::Tick) => self.spend(),
             (Phase::AtWork, Event::FrameStart { frame }) if self.share.deadline == frame => {
                 self.phase = Phase::Awaited;
             }
@@ -110,5 +118,15 @@ impl Task {
             }
             _ => {}
         }
+    }
+}
+
+/// Takes tasks through an event.
+pub(crate) fn all_on(tasks: &mut [Task], event: Event)
+    requires { WithinRun event }
+    ensures { tasks.new ≡ map (λ t. next t event) tasks.old }
+{
+    for task in tasks.iter_mut() {
+        task.on(event);
     }
 }

@@ -1,12 +1,20 @@
 //! Examples, worked out by hand.
-use crate::{Answer, Call, Question, Refusal, Run, replay};
+use crate::{Answer, Call, Question, Refusal, Reply, Run, replay};
 use choosing::rules::EarliestDeadline;
 use packing::rules::FirstFit;
+use packing::{Load, Opening};
+
+fn opening(cores: u32, unit: u32, frames: u32, rates: &[u16]) -> Opening {
+    Opening {
+        load: Load { cores, unit, rates },
+        frames,
+    }
+}
 
 /// Three tasks of 2 parts of 3 on two cores, for two frames.
 fn three_loops() -> Run<EarliestDeadline> {
     let mut run = Run::new(EarliestDeadline);
-    let _ = run.open(&FirstFit, 2, 3, 2, &[2; 3]);
+    let _ = run.open(&FirstFit, &opening(2, 3, 2, &[2; 3]));
     run
 }
 
@@ -52,7 +60,7 @@ fn a_run_never_opened_is_over(rt: HostRuntime) {
 #[test]
 fn one_frame_of_one_tick(rt: HostRuntime) {
     let mut run = Run::new(EarliestDeadline);
-    let _ = run.open(&FirstFit, 1, 1, 1, &[1]);
+    let _ = run.open(&FirstFit, &opening(1, 1, 1, &[1]));
     let _ = run.announce(0, 1);
     let mut list = [9];
     assert_eq!(rt; number(run.tick(&mut list)), 0);
@@ -63,7 +71,7 @@ fn one_frame_of_one_tick(rt: HostRuntime) {
 /// The number that an answer tells; 0 where it tells none.
 fn told(answer: Answer) -> u64 {
     match answer {
-        Answer::Number(number) => number,
+        Ok(Reply::Number(number)) => number,
         _ => 0,
     }
 }
@@ -78,14 +86,11 @@ fn calls_are_replayed(rt: HostRuntime) {
         Call::Tick { entries: 1 },
         Call::Ask(Question::PresentTick),
     ];
-    let mut answers = [Answer::Done; 3];
+    let mut answers = [Ok(Reply::Done); 3];
     let _ = replay(
         &FirstFit,
         EarliestDeadline,
-        1,
-        1,
-        1,
-        &[1],
+        &opening(1, 1, 1, &[1]),
         &calls,
         &mut answers,
     );

@@ -2,8 +2,10 @@
 use Rattle.std.proofs.Common.{◌≡◌, ℕ, ◌+◌, ◌-◌, ◌<◌, ◌≤◌, Bool, true, false, cond, not, ◌&&◌, eqb, ltb, leb, ◌⊎◌, List, [], ◌∷◌, ◌++◌, length, get_or, take, drop, replicate, Ok, Err, codes, Result, sym, refl, ap, ◌∙◌, subst, inl, inr, ⊎_elim, arith}
 use Rattle.std.proofs.lemmas.List.{length_push, get_or_push, get_or_append_left, drop_at}
 use Rattle.std.proofs.lemmas.Bool.{cases_lt, and_parts, and_cases, leb-true, leb-false, eqb-true, eqb-false, ltb-true, not-true, false≢true}
+use Rattle.std.specs.List.{list_all}
+use Rattle.std.specs.Str.{bytes_eq}
 use Rattle.sheet.specs.Faults.{extent, line_at, line_place, field_at, head_forms, task_forms, forms, passes, There, TaskLine, Holds, Applies, First, Sound, Sooner, Before, head_of, entry_of, TaskEntry, Taken, Told}
-use Rattle.sheet.specs.Forms.{same, written_well, is_number, is_period, is_name, all, name_byte, value}
+use Rattle.sheet.specs.Forms.{written_well, is_number, is_period, is_name, name_byte, value}
 use Rattle.sheet.specs.Parts.{lines, fields}
 use Rattle.sheet.specs.Reading.{Seen, Content, fault, and_then, head_line, head_at, new_task, tasks_from, after_mark, all_lines, in_bounds, reading, answer, table_of, blank, name_of}
 use Rattle.sheet.specs.declared.fault.Cause.{Cause}
@@ -225,16 +227,16 @@ module _ (bs : List ℕ) where
 
   all_lines_told : in_bounds bs ≡ true → (left : List (List ℕ)) → left ≡ lines bs → ToldBy bs Done (all_lines bs left)
   all_lines_told fit [] is = mark_first fit (λ e. let none : [] ≡ codes "BLS,1" = ap (λ ls. get_or ls 0 []) is ∙ e in let short = ap length none in omega arith)
-  all_lines_told fit (l ∷ ls) is = marked (same l (codes "BLS,1")) refl
+  all_lines_told fit (l ∷ ls) is = marked (bytes_eq l (codes "BLS,1")) refl
     where
       line : l ≡ line_at bs 1
       line = ap (λ m. get_or m 0 []) is
 
-      marked : (b : Bool) → same l (codes "BLS,1") ≡ b → ToldBy bs Done (cond b (after_mark bs (length l + 1) ls) (Err (fault 1 0 Mark)))
+      marked : (b : Bool) → bytes_eq l (codes "BLS,1") ≡ b → ToldBy bs Done (cond b (after_mark bs (length l + 1) ls) (Err (fault 1 0 Mark)))
       marked true e =
           after_mark_told (clean_mark fit (sym line ∙ same_true l (codes "BLS,1") e)) (length l + 1) ls
           (let long : length l + 1 ≡ extent (take 1 (l ∷ ls)) = omega arith in long ∙ ap (λ m. extent (take 1 m)) is) (ap (drop 1) is)
-      marked false e = mark_first fit (λ right. false≢true (sym e ∙ ap (λ m. same m (codes "BLS,1")) (line ∙ right) ∙ same_self (codes "BLS,1")))
+      marked false e = mark_first fit (λ right. false≢true (sym e ∙ ap (λ m. bytes_eq m (codes "BLS,1")) (line ∙ right) ∙ same_self (codes "BLS,1")))
 
   reading_told : ToldBy bs Done (reading bs)
   reading_told = fits (in_bounds bs) refl
@@ -266,7 +268,7 @@ module _ (bs : List ℕ) where
         let a : is_name (field_at bs (i + 5) 1) ≡ true = passed 1 (omega arith) in
         let b : is_number (field_at bs (i + 5) 2) ≡ true = passed 2 (omega arith) in
         let c : is_period (field_at bs (i + 5) 3) ≡ true = passed 3 (omega arith) in
-        let sizes = and_parts (ltb 0 (length name)) (leb (length name) 12) (and_parts (all name_byte name) (ltb 0 (length name) && leb (length name) 12) a).1 in
+        let sizes = and_parts (ltb 0 (length name)) (leb (length name) 12) (and_parts (list_all name_byte name) (ltb 0 (length name) && leb (length name) 12) a).1 in
         let both = and_parts (is_number every) (not (eqb (value every) 0)) c in
         let some = eqb-false (value every) 0 (not-true (eqb (value every) 0) both.1) in
         record {

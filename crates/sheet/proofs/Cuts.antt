@@ -1,9 +1,41 @@
 -- The first part of a text, and the parts that are left. Assumes nothing.
-use Rattle.std.proofs.Common.{◌≡◌, ℕ, suc, ◌+◌, ◌-◌, ◌<◌, ◌≤◌, Bool, true, false, cond, eqb, leb, List, [], ◌∷◌, length, get_or, take, drop, sym, refl, ap, ◌∙◌, inl, inr, arith, length-drop}
-use Rattle.std.proofs.lemmas.List.{drop-drop, take_all, drop_more, length-take-le}
-use Rattle.std.proofs.lemmas.Bool.{cond-true, cond-false, le-leb, lt-leb, cases_lt}
+use Rattle.std.proofs.Common.{◌≡◌, ℕ, suc, ◌+◌, ◌-◌, ◌<◌, ◌≤◌, Bool, true, false, cond, not, eqb, leb, ltb, List, [], ◌∷◌, length, get_or, take, drop, slice_range, Option, unwrap_or, sym, refl, ap, ◌∙◌, inl, inr, arith, length-drop}
+use Rattle.std.proofs.lemmas.List.{drop-drop, drop-take, take_all, drop_more, length-take-le}
+use Rattle.std.proofs.lemmas.Bool.{cond-true, cond-false, le-leb, lt-leb, lt-ltb, le-ltb, cases_lt}
+use Rattle.std.proofs.lemmas.List.Sums.{prefix_len-le-length}
+use Rattle.std.specs.List.{position, position_or_len}
 use Rattle.sheet.specs.Parts.{onto, parts, lines, fields, fields_from}
-use Rattle.sheet.specs.Steps.{gap}
+
+-- how many bytes stand before the first byte `cut`
+abbrev pub gap : ℕ → List ℕ → ℕ
+gap cut [] = 0
+gap cut (b ∷ bs) = cond (eqb b cut) 0 (suc (gap cut bs))
+
+pub gap_as : (cut : ℕ) (bs : List ℕ) → position_or_len (λ b. eqb b cut) bs ≡ gap cut bs
+gap_as cut [] = refl
+gap_as cut (b ∷ bs) = step (eqb b cut) (gap_as cut bs)
+  where
+    step : (t : Bool) {m n : ℕ} → m ≡ n → cond (not t) (1 + m) 0 ≡ cond t 0 (suc n)
+    step true e = refl
+    step false e = omega arith
+
+pub first_or_all : {X : Type 0} (p : X → Bool) (xs : List X) (o : Option ℕ) → o ≡ position p xs → unwrap_or o (length xs) ≡ position_or_len p xs
+first_or_all p xs o e =
+    let most = prefix_len-le-length (λ x. not (p x)) xs in
+    elim (cases_lt (position_or_len p xs) (length xs)) [
+      | inl l ↦ ap (λ q. unwrap_or q (length xs)) (e ∙ cond-true (ltb (position_or_len p xs) (length xs)) _ _ (lt-ltb _ _ l))
+      | inr g ↦ ap (λ q. unwrap_or q (length xs)) (e ∙ cond-false (ltb (position_or_len p xs) (length xs)) _ _ (le-ltb _ _ g)) ∙ omega arith
+    ]
+
+-- the bytes counted from a place on are those before the first byte `cut`
+pub counted : (cut : ℕ) (bs : List ℕ) (at n : ℕ) → at ≤ length bs → n ≡ position_or_len (λ b. eqb b cut) (take (length bs - at) (drop at bs)) →
+    (at + n ≡ at + gap cut (drop at bs)) × (at + n ≤ length bs)
+counted cut bs at n h e =
+    let long = length-drop at bs in
+    let rest : take (length bs - at) (drop at bs) ≡ drop at bs = take_all (length bs - at) (drop at bs) (omega arith) in
+    let same : n ≡ position_or_len (λ b. eqb b cut) (drop at bs) = e ∙ ap (position_or_len (λ b. eqb b cut)) rest in
+    let most : position_or_len (λ b. eqb b cut) (drop at bs) ≤ length (drop at bs) = prefix_len-le-length (λ b. not (eqb b cut)) (drop at bs) in
+    (ap (λ m. at + m) (same ∙ gap_as cut (drop at bs)), omega arith)
 
 module _ (s : ℕ) where
   -- the first part of a text cut at `s`, where a text with no part left is `[]`
@@ -78,3 +110,11 @@ pub field_taken : (bs : List ℕ) (at end : ℕ) → at ≤ length bs → end �
 field_taken bs at end h e w =
     let long : length (take (end - at) (drop at bs)) ≡ end - at = part_long bs at end (omega arith) w in
     (field_next bs at end h e w, omega arith, ap (λ n. take n (drop at bs)) (sym long))
+
+-- the lexer's text ends with the line
+pub line_fields : (bs : List ℕ) (at end : ℕ) → at ≤ end → end ≤ length bs → fields_from (take end bs) at ≡ fields (slice_range bs at end)
+line_fields bs at end h w =
+    let long : length (take end bs) ≡ end = length-take-le end bs w in
+    let whole : take end bs ≡ take (at + (end - at)) bs = ap (λ n. take n bs) (omega arith) in
+    cond-true (leb at (length (take end bs))) (fields (drop at (take end bs))) [] (le-leb _ _ (omega arith))
+    ∙ ap (λ t. fields (drop at t)) whole ∙ ap fields (drop-take at (end - at) bs)

@@ -1,8 +1,5 @@
-pub mod Scans
 pub mod Cuts
 pub mod Texts
-pub mod Judged
-pub mod Tabled
 pub mod Whole
 pub mod Extents
 pub mod Firsts

@@ -1,8 +1,12 @@
 -- One line read: its fault counts, or it is clean and its values are those of its fields. Assumes nothing.
-use Rattle.std.proofs.Common.{◌≡◌, ℕ, zero, suc, ◌+◌, ◌-◌, ◌<◌, ◌≤◌, Bool, true, false, cond, eqb, List, [], ◌∷◌, length, get_or, take, Some, None, Ok, Err, codes, Result, sym, refl, ap, ◌∙◌, ⊎_elim, arith}
-use Rattle.std.proofs.lemmas.Bool.{cond-false, and_parts, and_from, or_cases, or_parts, ne_eqb, eq-eqb, eqb-true, false≢true}
+use Rattle.std.proofs.Common.{◌≡◌, ℕ, zero, suc, ◌+◌, ◌-◌, ◌<◌, ◌≤◌, Bool, true, false, cond, eqb, List, [], ◌∷◌, length, get_or, take, Some, None, Ok, Err, codes, Result, sym, refl, ap, ◌∙◌, arith}
+use Rattle.std.proofs.lemmas.Bool.{cond-false, ne_eqb, false≢true}
+use Rattle.std.proofs.lemmas.List.{get_or_default}
+use Rattle.std.proofs.lemmas.List.Folds.{Any-from_list_any, list_any_at}
+use Rattle.std.proofs.lemmas.Slice.Eq.{bytes_eq-Decides}
+use Rattle.std.specs.Str.{bytes_eq}
 use Rattle.sheet.specs.Faults.{extent, line_at, line_place, field_at, field_place, head_forms, task_forms, forms, passes, There, Formed, Shaped, TaskLine, Holds, First, entry_of}
-use Rattle.sheet.specs.Forms.{same, is_number, is_period, is_name, number, period, value}
+use Rattle.sheet.specs.Forms.{is_number, is_period, is_name, number, period, value}
 use Rattle.sheet.specs.Parts.{fields}
 use Rattle.sheet.specs.Reading.{fault, and_then, at_field, head_line, task_line, task_fields, used, new_task, name_of, blank}
 use Rattle.sheet.specs.declared.fault.Cause.TheVariants.{Shape, Field, Repeated}
@@ -13,32 +17,21 @@ use Rattle.sheet.proofs.Firsts.{Clean, ToldBy, then_told, shape_first, field_fir
 
 -- ---- texts and names
 
-pub same_true : (xs ys : List ℕ) → same xs ys ≡ true → xs ≡ ys
-same_true [] [] e = refl
-same_true [] (y ∷ ys) e = absurd (false≢true e)
-same_true (x ∷ xs) [] e = absurd (false≢true e)
-same_true (x ∷ xs) (y ∷ ys) e =
-    let both = and_parts (eqb x y) (same xs ys) e in
-    ap (λ b. b ∷ xs) (eqb-true x y both.0) ∙ ap (λ l. y ∷ l) (same_true xs ys both.1)
+-- texts are the same if the test says so
+pub same_true : (xs ys : List ℕ) → bytes_eq xs ys ≡ true → xs ≡ ys
+same_true xs ys e = (bytes_eq-Decides xs ys).0 e
 
-pub same_self : (xs : List ℕ) → same xs xs ≡ true
-same_self [] = refl
-same_self (x ∷ xs) = and_from (eqb x x) (same xs xs) (eq-eqb x x refl) (same_self xs)
+pub same_self : (xs : List ℕ) → bytes_eq xs xs ≡ true
+same_self xs = (bytes_eq-Decides xs xs).1 refl
 
 pub used_some : (bs : List ℕ) (es : List Entry) (name : List ℕ) → used bs es name ≡ true → (i : ℕ) × (i < length es) × (name_of bs (get_or es i blank) ≡ name)
-used_some bs [] name e = absurd (false≢true e)
-used_some bs (x ∷ es) name e =
-    ⊎_elim (λ h. (0, omega arith, same_true (name_of bs x) name h)) (λ h. let rest = used_some bs es name h in (suc rest.0, let less = rest.1 in omega arith, rest.2))
-    (or_cases (same (name_of bs x) name) (used bs es name) e)
+used_some bs es name e =
+    let found = Any-from_list_any (λ x. bytes_eq (name_of bs x) name) es e in
+    (found.0, found.2, ap (name_of bs) (get_or_default es found.0 blank found.1 found.2 ∙ found.3) ∙ same_true (name_of bs found.1) name found.4)
 
 pub used_none : (bs : List ℕ) (es : List Entry) (name : List ℕ) → used bs es name ≡ false → (i : ℕ) → i < length es → name_of bs (get_or es i blank) ≡ name → ⊥
-used_none bs [] name e i h n = omega arith
-used_none bs (x ∷ es) name e zero h n =
-    let parts = or_parts (same (name_of bs x) name) (used bs es name) e in
-    false≢true (sym parts.0 ∙ ap (λ m. same m name) n ∙ same_self name)
-used_none bs (x ∷ es) name e (suc i) h n =
-    let parts = or_parts (same (name_of bs x) name) (used bs es name) e in
-    used_none bs es name parts.1 i (omega arith) n
+used_none bs es name e i h n =
+    false≢true (sym e ∙ list_any_at (λ x. bytes_eq (name_of bs x) name) es i blank h (ap (λ m. bytes_eq m name) n ∙ same_self name))
 
 -- from line 5 on the lines are tasks'
 pub task_kind : (k : ℕ) → 5 ≤ k → forms k ≡ task_forms
@@ -92,9 +85,9 @@ module _ (bs : List ℕ) (n k : ℕ) (after : k ≡ n + 1) (clean : Clean bs n) 
     head_told [] cut = miscounted (head_forms word) kind p at [] cut (λ e. omega arith)
     head_told (w ∷ []) cut = miscounted (head_forms word) kind p at (w ∷ []) cut (λ e. omega arith)
     head_told (w ∷ v ∷ f ∷ fs) cut = miscounted (head_forms word) kind p at (w ∷ v ∷ f ∷ fs) cut (λ e. omega arith)
-    head_told (w ∷ v ∷ []) cut = worded (same w word) refl
+    head_told (w ∷ v ∷ []) cut = worded (bytes_eq w word) refl
       where
-        numbered : (b : Bool) → is_number v ≡ b → same w word ≡ true → ToldBy bs HeadLine (at_field k (p + length w + 1) (cond b (Some (value v)) None))
+        numbered : (b : Bool) → is_number v ≡ b → bytes_eq w word ≡ true → ToldBy bs HeadLine (at_field k (p + length w + 1) (cond b (Some (value v)) None))
         numbered false e s = wrong_field (head_forms word) kind p at (w ∷ v ∷ []) cut refl s 1 (p + length w + 1) (omega arith) (omega arith) e (λ j a b. absurd (omega arith))
         numbered true e s =
             let formed : (i : ℕ) → 1 ≤ i → Formed bs k i = forming e in
@@ -106,7 +99,7 @@ module _ (bs : List ℕ) (n k : ℕ) (after : k ≡ n + 1) (clean : Clean bs n) 
             forming e (suc zero) h = formed_as (head_forms word) kind p at (w ∷ v ∷ []) cut 1 ∙ e
             forming e (suc (suc i)) h = formed_as (head_forms word) kind p at (w ∷ v ∷ []) cut (suc (suc i))
 
-        worded : (b : Bool) → same w word ≡ b → ToldBy bs HeadLine (cond b (at_field k (p + length w + 1) (number v)) (Err (fault k p Shape)))
+        worded : (b : Bool) → bytes_eq w word ≡ b → ToldBy bs HeadLine (cond b (at_field k (p + length w + 1) (number v)) (Err (fault k p Shape)))
         worded true s = numbered (is_number v) refl s
         worded false s = other_word (head_forms word) kind p at (w ∷ v ∷ []) cut s
 
@@ -145,7 +138,7 @@ module _ (bs : List ℕ) (n k : ℕ) (after : k ≡ n + 1) (clean : Clean bs n) 
       form_of : (i : ℕ) → passes (forms k) i (field_at bs k i) ≡ passes task_forms i (get_or fs i [])
       form_of = formed_as task_forms (task_kind k five) p at fs cut
 
-      module _ (s : same w (codes "task") ≡ true) where
+      module _ (s : bytes_eq w (codes "task") ≡ true) where
         wrong : (i place : ℕ) → 1 ≤ i → place ≡ p + extent (take i fs) → passes task_forms i (get_or fs i []) ≡ false →
             ((j : ℕ) → 1 ≤ j → j < i → passes task_forms j (get_or fs j []) ≡ true) → First bs (fault k place Field)
         wrong = wrong_field task_forms (task_kind k five) p at fs cut refl s
@@ -183,7 +176,7 @@ module _ (bs : List ℕ) (n k : ℕ) (after : k ≡ n + 1) (clean : Clean bs n) 
         named true e = rated (is_number r) refl e
         named false e = wrong 1 x (omega arith) (omega arith) e (λ j a b. absurd (omega arith))
 
-      worded : (b : Bool) → same w (codes "task") ≡ b → ToldBy bs FormedLine (cond b (task_fields k x m r q) (Err (fault k p Shape)))
+      worded : (b : Bool) → bytes_eq w (codes "task") ≡ b → ToldBy bs FormedLine (cond b (task_fields k x m r q) (Err (fault k p Shape)))
       worded true s = named s (is_name m) refl
       worded false s = other_word task_forms (task_kind k five) p at fs cut s
 
@@ -192,7 +185,7 @@ module _ (bs : List ℕ) (n k : ℕ) (after : k ≡ n + 1) (clean : Clean bs n) 
     task_told (w ∷ []) cut = miscounted task_forms (task_kind k five) p at (w ∷ []) cut (λ e. omega arith)
     task_told (w ∷ m ∷ []) cut = miscounted task_forms (task_kind k five) p at (w ∷ m ∷ []) cut (λ e. omega arith)
     task_told (w ∷ m ∷ r ∷ []) cut = miscounted task_forms (task_kind k five) p at (w ∷ m ∷ r ∷ []) cut (λ e. omega arith)
-    task_told (w ∷ m ∷ r ∷ q ∷ []) cut = worded w m r q cut (same w (codes "task")) refl
+    task_told (w ∷ m ∷ r ∷ q ∷ []) cut = worded w m r q cut (bytes_eq w (codes "task")) refl
     task_told (w ∷ m ∷ r ∷ q ∷ f ∷ fs) cut = miscounted task_forms (task_kind k five) p at (w ∷ m ∷ r ∷ q ∷ f ∷ fs) cut (λ e. omega arith)
 
     -- the entries are those of the tasks before this one

@@ -1,10 +1,12 @@
 -- A written sheet read line by line. Assumes nothing.
-use Rattle.std.proofs.Common.{◌≡◌, ℕ, suc, ◌+◌, ◌-◌, ◌*◌, ◌≤◌, true, false, cond, not, ◌&&◌, eqb, ltb, leb, List, [], ◌∷◌, ◌++◌, map, length, get_or, take, drop, replicate, Ok, Err, codes, decimal, Result, sym, refl, ap, ◌∙◌, append_assoc, arith, length-append}
+use Rattle.std.proofs.Common.{◌≡◌, ℕ, suc, ◌+◌, ◌-◌, ◌*◌, ◌≤◌, true, false, cond, not, ◌&&◌, ◌||◌, eqb, ltb, leb, List, [], ◌∷◌, ◌++◌, map, length, get_or, take, drop, replicate, Ok, Err, codes, decimal, Result, sym, refl, ap, ◌∙◌, append_assoc, arith, length-append}
 use lib.ListN.{length-map}
 use Rattle.std.proofs.lemmas.List.{drop-drop, drop_at, take_at, length_push, get_or-append-add, get_or_at, append-nil}
-use Rattle.std.proofs.lemmas.Bool.{cond-true, cond-false, and_parts, and_from, or_from, or_parts, eq-eqb, ne_eqb, le-leb, leb-true}
-use Rattle.std.specs.List.{AllByRecursion}
-use Rattle.sheet.specs.Forms.{same, all, name_byte, is_name, number, period}
+use Rattle.std.proofs.lemmas.Bool.{cond-true, cond-false, and_parts, and_from, or_from, eq-eqb, ne_eqb, le-leb, leb-true}
+use Rattle.std.proofs.lemmas.List.Folds.{list_any-append}
+use Rattle.std.specs.List.{AllByRecursion, list_all}
+use Rattle.std.specs.Str.{bytes_eq}
+use Rattle.sheet.specs.Forms.{name_byte, is_name, number, period}
 use Rattle.sheet.specs.Parts.{lines, fields}
 use Rattle.sheet.specs.Reading.{Seen, fault, and_then, at_field, head_line, head_at, task_line, name_of, used, new_task, tasks_from, all_lines, in_bounds, reading, answer, table_of, blank}
 use Rattle.sheet.specs.Written.{Task, head_text, task_text, ended, written_lines, written, Good, Apart, Valid, task_of, Returned}
@@ -15,14 +17,14 @@ use Rattle.sheet.specs.declared.table.Head.{Head}
 use Rattle.sheet.proofs.Back.{Lacks, cut_off, cut_last, number_back, period_back, decimal_lacks_comma, name_lacks_comma, decimal_lacks_feed, name_lacks_feed, all_join, lines_back, decimal_short}
 use Rattle.sheet.proofs.Whole.{content, from_frames, from_unit, from_cores, in_reading}
 
-pub head_back : (bs word : List ℕ) (line p n : ℕ) (ls : List (List ℕ)) → Lacks 44 word → same word word ≡ true → n ≤ 65535 →
+pub head_back : (bs word : List ℕ) (line p n : ℕ) (ls : List (List ℕ)) → Lacks 44 word → bytes_eq word word ≡ true → n ≤ 65535 →
     head_at bs word line p (head_text word n ∷ ls) ≡ Ok (record { value = n; place = p + length (head_text word n) + 1; left = ls })
 head_back bs word line p n ls lacks self small =
     let k : ℕ → Result Seen Fault = λ v. Ok (record { value = v; place = p + length (head_text word n) + 1; left = ls }) in
     let two : fields (head_text word n) ≡ word ∷ decimal n ∷ [] =
     cut_off 44 ([] ∷ []) word (decimal n) lacks ∙ ap (λ r. word ∷ r) (cut_last 44 (decimal n) (decimal_lacks_comma n small)) in
     ap (λ fs. and_then (head_line word line p fs) k) two
-    ∙ ap (λ t. and_then t k) (cond-true (same word word) (at_field line (p + length word + 1) (number (decimal n))) (Err (fault line p Shape)) self)
+    ∙ ap (λ t. and_then t k) (cond-true (bytes_eq word word) (at_field line (p + length word + 1) (number (decimal n))) (Err (fault line p Shape)) self)
     ∙ ap (λ o. and_then (at_field line (p + length word + 1) o) k) (number_back n small)
 
 -- the entry of a task whose line begins at a place
@@ -38,8 +40,8 @@ entries_count p [] = refl
 entries_count p (t ∷ ts) = ap suc (entries_count (p + length (task_text t) + 1) ts)
 
 module _ (t : Task) (g : Good t) where
-  letters : all name_byte t.name ≡ true
-  letters = (and_parts (all name_byte t.name) _ g.0).0
+  letters : list_all name_byte t.name ≡ true
+  letters = (and_parts (list_all name_byte t.name) _ g.0).0
 
   fields_task : fields (task_text t) ≡ codes "task" ∷ t.name ∷ decimal t.rate ∷ decimal t.period ∷ []
   fields_task =
@@ -59,11 +61,8 @@ module _ (t : Task) (g : Good t) where
       ∙ ap (λ o. and_then (at_field line x o) (λ r. and_then (at_field line y (period (decimal t.period))) (k r))) (number_back t.rate g.1)
       ∙ ap (λ o. and_then (at_field line y o) (k t.rate)) (period_back t.period g.3 g.2)
 
-pub used_push : (bs : List ℕ) (es : List Entry) (e : Entry) (name : List ℕ) → used bs es name ≡ false → same (name_of bs e) name ≡ false → used bs (es ++ e ∷ []) name ≡ false
-used_push bs [] e name h k = or_from (same (name_of bs e) name) false k refl
-used_push bs (x ∷ es) e name h k =
-    let parts = or_parts (same (name_of bs x) name) (used bs es name) h in
-    or_from (same (name_of bs x) name) (used bs (es ++ e ∷ []) name) parts.0 (used_push bs es e name parts.1 k)
+pub used_push : (bs : List ℕ) (es : List Entry) (e : Entry) (name : List ℕ) → used bs es name ≡ false → bytes_eq (name_of bs e) name ≡ false → used bs (es ++ e ∷ []) name ≡ false
+used_push bs es e name h k = list_any-append (λ x. bytes_eq (name_of bs x) name) es (e ∷ []) ∙ or_from (used bs es name) (bytes_eq (name_of bs e) name || false) h (or_from (bytes_eq (name_of bs e) name) false k refl)
 
 module _ (bs : List ℕ) where
   pub next_line : (p : ℕ) (l rest : List ℕ) → drop p bs ≡ l ++ 10 ∷ rest → drop (p + length l + 1) bs ≡ rest
@@ -78,9 +77,9 @@ module _ (bs : List ℕ) where
       ap (take (length t.name)) (here ∙ append_assoc t.name after rest) ∙ take_at t.name (after ++ rest) (length t.name) refl
 
   still_fresh : (es : List Entry) (e : Entry) (t : Task) → name_of bs e ≡ t.name → (us : List Task) → AllByRecursion (λ u. used bs es u.name ≡ false) us →
-      AllByRecursion (λ u. same t.name u.name ≡ false) us → AllByRecursion (λ u. used bs (es ++ e ∷ []) u.name ≡ false) us
+      AllByRecursion (λ u. bytes_eq t.name u.name ≡ false) us → AllByRecursion (λ u. used bs (es ++ e ∷ []) u.name ≡ false) us
   still_fresh es e t n [] h k = tt
-  still_fresh es e t n (u ∷ us) h k = (used_push bs es e u.name h.0 (ap (λ m. same m u.name) n ∙ k.0), still_fresh es e t n us h.1 k.1)
+  still_fresh es e t n (u ∷ us) h k = (used_push bs es e u.name h.0 (ap (λ m. bytes_eq m u.name) n ∙ k.0), still_fresh es e t n us h.1 k.1)
 
   pub tasks_back : (es : List Entry) (ts : List Task) (line p : ℕ) → drop p bs ≡ ended (map task_text ts) → AllByRecursion Good ts → Apart ts →
       AllByRecursion (λ u. used bs es u.name ≡ false) ts → length es + length ts ≤ 64 → 1 ≤ length es + length ts → tasks_from bs es line p (map task_text ts) ≡ Ok (es ++ entries p ts)
@@ -134,7 +133,7 @@ lacking (t ∷ ts) g = (
 
 task_short : (t : Task) → Good t → length (task_text t) ≤ 29
 task_short t g =
-    let name : length t.name ≤ 12 = leb-true _ _ (and_parts (ltb 0 (length t.name)) (leb (length t.name) 12) (and_parts (all name_byte t.name) (ltb 0 (length t.name) && leb (length t.name) 12) g.0).1).1 in
+    let name : length t.name ≤ 12 = leb-true _ _ (and_parts (ltb 0 (length t.name)) (leb (length t.name) 12) (and_parts (list_all name_byte t.name) (ltb 0 (length t.name) && leb (length t.name) 12) g.0).1).1 in
     let rate = decimal_short t.rate g.1 in
     let period = decimal_short t.period g.3 in
     let one = length-append t.name (44 ∷ (decimal t.rate ++ 44 ∷ decimal t.period)) in

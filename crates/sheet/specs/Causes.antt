@@ -1,5 +1,6 @@
--- What each cause of a fault says, and the fault of a refused opening. A reader of the contracts has to believe this file.
-use Rattle.std.specs.Prelude.{ℕ, ◌+◌, cond, None, nat_lt}
+-- What each cause of a fault says, the fault of a refused opening, and how a fault is printed. A reader of the contracts has to
+-- believe this file.
+use Rattle.std.specs.Prelude.{ℕ, ◌+◌, cond, List, ◌++◌, None, codes, decimal, nat_lt}
 use Rattle.packing.specs.Openings.{opening_row}
 use Rattle.packing.specs.Refusals.{Row}
 use Rattle.packing.specs.declared.opening.OpeningRefusal.{OpeningRefusal}
@@ -35,3 +36,7 @@ opening_line (Load Overload) = 0
 -- A sheet that reads, and whose opening is refused.
 abbrev pub opening_fault : OpeningRefusal → Fault
 opening_fault r = record { line = opening_line r; place = 0; cause = Opening r }
+
+-- How a fault is printed.
+abbrev pub printed : Fault → List ℕ
+printed f = codes "no," ++ (decimal (cause_row f.cause).number ++ (codes "," ++ (decimal f.line ++ (codes "," ++ decimal f.place))))

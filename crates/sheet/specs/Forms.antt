@@ -1,5 +1,7 @@
 -- The forms of a field: a word, a number, a period, a name. A reader of the contracts has to believe this file.
-use Rattle.std.specs.Prelude.{ℕ, ◌+◌, ◌-◌, ◌*◌, Bool, true, false, cond, not, ◌&&◌, ◌||◌, List, [], ◌∷◌, length, Some, None, Option, ◌==◌, nat_le, nat_lt, slice_index}
+use Rattle.std.specs.Prelude.{ℕ, ◌+◌, ◌-◌, ◌*◌, Bool, cond, not, ◌&&◌, ◌||◌, List, [], ◌∷◌, length, Some, None, Option, ◌==◌, nat_le, nat_lt, slice_index}
+use Rattle.std.specs.List.{list_all}
+use Rattle.std.specs.Str.{bytes_eq}
 
 -- '0' to '9'.
 abbrev pub digit : ℕ → Bool
@@ -13,21 +15,9 @@ capital b = nat_le 65 b && nat_le b 90
 abbrev pub name_byte : ℕ → Bool
 name_byte b = digit b || capital b
 
--- Every byte of a text passes the test.
-abbrev pub all : (ℕ → Bool) → List ℕ → Bool
-all p [] = true
-all p (b ∷ bs) = p b && all p bs
-
--- Two texts are the same.
-abbrev pub same : List ℕ → List ℕ → Bool
-same [] [] = true
-same [] (y ∷ ys) = false
-same (x ∷ xs) [] = false
-same (x ∷ xs) (y ∷ ys) = x == y && same xs ys
-
 -- The field is this word.
 abbrev pub is_word : List ℕ → List ℕ → Bool
-is_word word bs = same bs word
+is_word word bs = bytes_eq bs word
 
 -- The number that digits write after others that write `v`.
 abbrev pub value_on : ℕ → List ℕ → ℕ
@@ -41,7 +31,7 @@ value bs = value_on 0 bs
 -- 1 to 5 digits, with no leading zero unless there is one digit.
 abbrev pub written_well : List ℕ → Bool
 written_well bs =
-    all digit bs && (nat_lt 0 (length bs) && (nat_le (length bs) 5 && (length bs == 1 || not (slice_index bs 0 == 48))))
+    list_all digit bs && (nat_lt 0 (length bs) && (nat_le (length bs) 5 && (length bs == 1 || not (slice_index bs 0 == 48))))
 
 -- A number: written well, and at most 65,535.
 abbrev pub is_number : List ℕ → Bool
@@ -53,7 +43,7 @@ is_period bs = is_number bs && not (value bs == 0)
 
 -- A name: 1 to 12 bytes of 'A' to 'Z' and '0' to '9'.
 abbrev pub is_name : List ℕ → Bool
-is_name bs = all name_byte bs && (nat_lt 0 (length bs) && nat_le (length bs) 12)
+is_name bs = list_all name_byte bs && (nat_lt 0 (length bs) && nat_le (length bs) 12)
 
 -- The number that a field writes, if it is of the form asked for.
 abbrev pub number : List ℕ → Option ℕ

@@ -7,3 +7,5 @@ pub mod Tokens
 pub mod Written
 pub mod Worked
 pub mod Steps
+pub mod Left
+pub mod Fitting

@@ -1,7 +1,9 @@
 -- What a sheet reads as, line by line and so that it computes: its head and tasks, or a fault. Faults.antt says in the terms
 -- of the table which of the two it is; both stand on the contract of `read`, and either fixes its answer.
-use Rattle.std.specs.Prelude.{ℕ, ◌+◌, ◌-◌, Bool, false, cond, ◌&&◌, ◌||◌, List, [], ◌∷◌, ◌++◌, length, take, drop, replicate, Some, None, Ok, Err, codes, Option, Result, ◌==◌, nat_le, slice_index}
-use Rattle.sheet.specs.Forms.{same, number, period, is_name}
+use Rattle.std.specs.Prelude.{ℕ, ◌+◌, ◌-◌, Bool, cond, ◌&&◌, List, [], ◌∷◌, ◌++◌, length, take, drop, replicate, Some, None, Ok, Err, codes, Option, Result, ◌==◌, nat_le, slice_index}
+use Rattle.std.specs.List.{list_any}
+use Rattle.std.specs.Str.{bytes_eq}
+use Rattle.sheet.specs.Forms.{number, period, is_name}
 use Rattle.sheet.specs.Parts.{lines, fields}
 use Rattle.sheet.specs.declared.fault.Cause.{Cause}
 use Rattle.sheet.specs.declared.fault.Cause.TheVariants.{Bounds, Mark, Shape, Field, Repeated, Tasks}
@@ -38,7 +40,7 @@ at_field line place None = Err (fault line place Field)
 abbrev pub head_line : List ℕ → ℕ → ℕ → List (List ℕ) → Result ℕ Fault
 head_line word line place [] = Err (fault line place Shape)
 head_line word line place (w ∷ []) = Err (fault line place Shape)
-head_line word line place (w ∷ v ∷ []) = cond (same w word) (at_field line (place + length w + 1) (number v)) (Err (fault line place Shape))
+head_line word line place (w ∷ v ∷ []) = cond (bytes_eq w word) (at_field line (place + length w + 1) (number v)) (Err (fault line place Shape))
 head_line word line place (w ∷ v ∷ f ∷ fs) = Err (fault line place Shape)
 
 -- The last three fields of a task's line, where `place` is that of the name.
@@ -56,13 +58,12 @@ task_line line place [] = Err (fault line place Shape)
 task_line line place (w ∷ []) = Err (fault line place Shape)
 task_line line place (w ∷ n ∷ []) = Err (fault line place Shape)
 task_line line place (w ∷ n ∷ r ∷ []) = Err (fault line place Shape)
-task_line line place (w ∷ n ∷ r ∷ p ∷ []) = cond (same w (codes "task")) (task_fields line (place + length w + 1) n r p) (Err (fault line place Shape))
+task_line line place (w ∷ n ∷ r ∷ p ∷ []) = cond (bytes_eq w (codes "task")) (task_fields line (place + length w + 1) n r p) (Err (fault line place Shape))
 task_line line place (w ∷ n ∷ r ∷ p ∷ f ∷ fs) = Err (fault line place Shape)
 
 -- The test that one of the entries has this name.
 abbrev pub used : List ℕ → List Entry → List ℕ → Bool
-used bs [] name = false
-used bs (e ∷ es) name = same (name_of bs e) name || used bs es name
+used bs es name = list_any (λ e. bytes_eq (name_of bs e) name) es
 
 -- A task's line whose name no earlier entry has.
 abbrev pub new_task : List ℕ → List Entry → ℕ → ℕ → List (List ℕ) → Result Entry Fault
@@ -106,7 +107,7 @@ after_mark bs place ls =
 -- All lines.
 abbrev pub all_lines : List ℕ → List (List ℕ) → Result Content Fault
 all_lines bs [] = Err (fault 1 0 Mark)
-all_lines bs (l ∷ ls) = cond (same l (codes "BLS,1")) (after_mark bs (length l + 1) ls) (Err (fault 1 0 Mark))
+all_lines bs (l ∷ ls) = cond (bytes_eq l (codes "BLS,1")) (after_mark bs (length l + 1) ls) (Err (fault 1 0 Mark))
 
 -- 1 to 8,192 bytes, the last a line feed.
 abbrev pub in_bounds : List ℕ → Bool

@@ -1,6 +1,7 @@
 -- What a token holds, and which the next one is. A reader of the contracts has to believe this file.
 use Rattle.std.specs.Prelude.{◌≡◌, ℕ, ◌+◌, true, false, List, [], ◌∷◌, length, take, drop, Some, None, Option}
-use Rattle.sheet.specs.Forms.{digit, name_byte, all}
+use Rattle.std.specs.List.{list_all}
+use Rattle.sheet.specs.Forms.{digit, name_byte}
 use Rattle.sheet.specs.Parts.{fields_from}
 use Rattle.sheet.specs.declared.token.Token.{Token}
 use Rattle.sheet.specs.declared.token.Token.TheVariants.{Name, Number, Keyword}
@@ -19,9 +20,9 @@ place_of (Keyword text place) = place
 -- A token is of the kind that its bytes say: digits alone are a number, capitals and digits a name, any other text has to
 -- be a word that the reader knows.
 abbrev pub Fits : Token → Type 0
-Fits (Name text place) = (all digit text.now ≡ false) × (all name_byte text.now ≡ true)
-Fits (Number text place) = all digit text.now ≡ true
-Fits (Keyword text place) = (all digit text.now ≡ false) × (all name_byte text.now ≡ false)
+Fits (Name text place) = (list_all digit text.now ≡ false) × (list_all name_byte text.now ≡ true)
+Fits (Number text place) = list_all digit text.now ≡ true
+Fits (Keyword text place) = (list_all digit text.now ≡ false) × (list_all name_byte text.now ≡ false)
 
 -- A token is handed on as the part of the text that it occupies.
 abbrev pub Occupies : List ℕ → Token → Type 0

@@ -1,7 +1,8 @@
 -- Writing a sheet, and the law that reading it gives back what was written. A reader of the contracts has to believe this file.
 use Rattle.std.specs.Prelude.{◌≡◌, ℕ, ◌≤◌, true, false, List, [], ◌∷◌, ◌++◌, map, length, take, Ok, codes, decimal, Result}
 use Rattle.std.specs.List.{AllByRecursion}
-use Rattle.sheet.specs.Forms.{same, is_name}
+use Rattle.std.specs.Str.{bytes_eq}
+use Rattle.sheet.specs.Forms.{is_name}
 use Rattle.sheet.specs.Reading.{name_of}
 use Rattle.sheet.specs.declared.fault.Fault.{Fault}
 use Rattle.sheet.specs.declared.table.Entry.{Entry}
@@ -43,7 +44,7 @@ Good t = (is_name t.name ≡ true) × (t.rate ≤ 65535) × (1 ≤ t.period) × 
 -- No two of the tasks have one name.
 abbrev pub Apart : List Task → Type 0
 Apart [] = Unit {0}
-Apart (t ∷ ts) = AllByRecursion (λ u. same t.name u.name ≡ false) ts × Apart ts
+Apart (t ∷ ts) = AllByRecursion (λ u. bytes_eq t.name u.name ≡ false) ts × Apart ts
 
 -- A head and tasks that a sheet can hold. (That it is then not too long is proved.)
 pub record Valid (h : Head) (ts : List Task) : Type 0 where

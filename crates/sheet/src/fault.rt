@@ -1,9 +1,10 @@
 //! Why a sheet is refused, and where.
-ghost use Rattle.std.specs.Prelude.{◌≡◌};
-ghost use Rattle.sheet.specs.Causes.{cause_row, opening_line, opening_fault};
+ghost use Rattle.std.specs.Prelude.{◌≡◌, Some};
+ghost use Rattle.sheet.specs.Causes.{cause_row, opening_line, opening_fault, printed};
 
 use packing::{OpeningRefusal, Refusal, SHEET_TASKS};
 use std::convert::From;
+use std::fmt;
 
 /// Why a sheet is refused.
 #[derive(Clone, Copy)]
@@ -94,5 +95,14 @@ impl From<OpeningRefusal> for Fault {
             place: 0,
             cause: Cause::Opening(refusal),
         }
+    }
+}
+
+/// Its number, its line and its place.
+impl fmt::Display for Fault {
+    ghost output = { λ fault. Some (printed fault) };
+
+    fn fmt<W: fmt::Write>(&self, f: &mut fmt::Formatter<W>) -> fmt::Result {
+        write!(f, "no,{},{},{}", self.number(), self.line, self.place)
     }
 }

@@ -1,83 +1,67 @@
 //! The forms of a field.
-ghost use Rattle.std.specs.Prelude.{◌≡◌, ◌+◌, if◌then◌else◌, Some, None, nat_le};
-ghost use Rattle.sheet.specs.Forms.{same as alike, value as value_of, number as number_of, period as period_of, is_name};
+ghost use Rattle.std.specs.Prelude.{◌≡◌, true, ◌&&◌, ◌==◌, nat_lt, length, slice_index};
+ghost use Rattle.std.specs.List.{list_all};
+ghost use Rattle.sheet.specs.Forms.{digit, number as number_of, period as period_of, is_name as names};
 ghost use Rattle.sheet.specs.Tokens.{text_of, Fits};
+ghost use Rattle.sheet.specs.Fitting.{Fits-prop};
 
-use crate::limits::{DIGITS, HIGHEST, NAME};
+use crate::limits::{DIGITS, NAME};
 use crate::token::Token;
+use std::str;
 
-/// Whether two texts are the same.
-pub(crate) fn same(a: &[u8], b: &[u8]) -> bool
-    ensures { result ≡ alike a.now b.now }
+/// Whether a zero stands before other digits.
+fn is_padded(digits: &[u8]) -> bool
+    ensures { result ≡ (nat_lt 1 (length digits.now) && slice_index digits.now 0 == 48) }
 {
-    if a.len() != b.len() {
-        return false;
-    }
-    for i in 0..a.len() {
-        if a[i] != b[i] {
-            return false;
-        }
-    }
-    true
+    digits.len() > 1 && digits[0] == b'0'
 }
 
-/// The number that digits write, unless it is above the highest.
-fn value(text: &[u8]) -> Option<u16>
-    ensures { result ≡ (if nat_le (value_of text.now) 65535 then Some (value_of text.now) else None) }
+/// The number that digits write, if they are not too many, have no zero before others and are not too high.
+fn number_of(digits: &[u8]) -> Option<u16>
+    requires { list_all digit digits.now ≡ true }
+    ensures { result ≡ number_of digits.now }
 {
-    let mut sum = 0u32;
-    for i in 0..text.len() {
-        if sum > HIGHEST {
-            return None;
-        }
-        sum = sum * 10 + text[i].saturating_sub(48) as u32;
+    if digits.len() > DIGITS || is_padded(digits) {
+        return None;
     }
-    if sum > HIGHEST {
-        None
-    } else {
-        Some(sum as u16)
-    }
+    str::from_utf8(digits).ok()?.parse::<u16>().ok()
 }
 
-/// The number that a field writes, if it is of that form.
-pub(crate) fn number(field: Token) -> Option<u16>
-    requires { Fits field }
-    ensures { result ≡ number_of (text_of field.entry) }
-{
-    match field {
-        Token::Number { text, place: _ } => {
-            if text.len() == 0 || text.len() > DIGITS {
-                return None;
+/// A field of a line: a token of the kind that its bytes say.
+#[derive(Clone, Copy)]
+pub(crate) struct Field<'a> {
+    pub(crate) token: Token<'a>,
+    ghost fits: { Fits token } by { Fits-prop token },
+}
+
+impl<'a> Field<'a> {
+    /// The number that it writes, if it is of that form.
+    pub(crate) fn number(self) -> Option<u16>
+        ensures { result ≡ number_of (text_of self.entry.token) }
+    {
+        match self.token {
+            Token::Number { text, .. } => number_of(text),
+            Token::Name { .. } | Token::Keyword { .. } => None,
+        }
+    }
+
+    /// The period that it writes: a number of 1 or more.
+    pub(crate) fn period(self) -> Option<u16>
+        ensures { result ≡ period_of (text_of self.entry.token) }
+    {
+        self.number().filter(|n| *n > 0)
+    }
+
+    /// Whether it is a name. Digits alone are one too.
+    #[tactic(auto, using(crate::proofs::Texts::digits_name, crate::proofs::Texts::short_name))]
+    pub(crate) fn is_name(self) -> bool
+        ensures { result ≡ names (text_of self.entry.token) }
+    {
+        match self.token {
+            Token::Name { text, .. } | Token::Number { text, .. } => {
+                (1..=NAME).contains(&text.len())
             }
-            if text.len() != 1 && text[0] == b'0' {
-                return None;
-            }
-            value(text)
+            Token::Keyword { .. } => false,
         }
-        Token::Name { text: _, place: _ } => None,
-        Token::Keyword { text: _, place: _ } => None,
-    }
-}
-
-/// The period that a field writes: a number of 1 or more.
-pub(crate) fn period(field: Token) -> Option<u16>
-    requires { Fits field }
-    ensures { result ≡ period_of (text_of field.entry) }
-{
-    match number(field) {
-        Some(n) => { if n == 0 { None } else { Some(n) } }
-        None => None,
-    }
-}
-
-/// Whether a field is a name. Digits alone are one too.
-pub(crate) fn is_name_field(field: Token) -> bool
-    requires { Fits field }
-    ensures { result ≡ is_name (text_of field.entry) }
-{
-    match field {
-        Token::Name { text, place: _ } => text.len() > 0 && text.len() <= NAME,
-        Token::Number { text, place: _ } => text.len() > 0 && text.len() <= NAME,
-        Token::Keyword { text: _, place: _ } => false,
     }
 }

@@ -1,10 +1,13 @@
 //! The lexer: cuts a line into its fields, one at a time.
-ghost use Rattle.std.specs.Prelude.{◌≡◌, ◌+◌, ◌≤◌, length, drop};
-ghost use Rattle.sheet.specs.Forms.{all, digit, name_byte};
-ghost use Rattle.sheet.specs.Steps.{gap};
-ghost use Rattle.sheet.specs.Tokens.{Next};
+ghost use Rattle.std.specs.Prelude.{◌≡◌, ◌≤◌, length};
+ghost use Rattle.std.specs.Option.{option_map};
+ghost use Rattle.std.specs.List.{list_all, position_or_len};
+ghost use Rattle.sheet.specs.Forms.{digit, name_byte};
+ghost use Rattle.sheet.specs.Steps.{of_class};
+ghost use Rattle.sheet.specs.Tokens.{Next, Fits, text_of, place_of};
 
-use crate::class::{is_comma, is_digit, is_feed, is_name_byte};
+use crate::class::{Class, is_name_byte};
+use crate::forms::Field;
 use crate::token::Token;
 
 /// The sheet up to the end of a line, and where the next field begins: past the end when there is none.
@@ -14,56 +17,41 @@ pub struct Lexer<'a> {
     at: usize,
 }
 
-/// Where the line that begins at `from` ends.
-pub(crate) fn line_end(text: &[u8], from: usize) -> usize
-    requires { from ≤ length text.now }
-    ensures end { result ≡ from + gap 10 (drop from text.now) }
+/// How many bytes stand before the first of a kind: all, if there is none.
+pub(crate) fn count_before(text: &[u8], end: Class) -> usize
+    ensures count { result ≡ position_or_len (of_class end) text.now }
     ensures within { result ≤ length text.now }
 {
-    for end in from..text.len() {
-        if is_feed(text[end]) {
-            return end;
-        }
-    }
-    text.len()
-}
-
-/// Where the field that begins at `from` ends.
-fn field_end(text: &[u8], from: usize) -> usize
-    requires { from ≤ length text.now }
-    ensures end { result ≡ from + gap 44 (drop from text.now) }
-    ensures within { result ≤ length text.now }
-{
-    for end in from..text.len() {
-        if is_comma(text[end]) {
-            return end;
-        }
-    }
-    text.len()
+    text.iter().position(|b| end.has(*b)).unwrap_or(text.len())
 }
 
 /// Whether the text has digits alone.
 fn all_digits(text: &[u8]) -> bool
-    ensures { result ≡ all digit text.now }
+    ensures { result ≡ list_all digit text.now }
 {
-    for i in 0..text.len() {
-        if !is_digit(text[i]) {
-            return false;
-        }
-    }
-    true
+    text.iter().all(|b| Class::Digit.has(*b))
 }
 
 /// Whether the text has capitals and digits alone.
 fn all_name_bytes(text: &[u8]) -> bool
-    ensures { result ≡ all name_byte text.now }
+    ensures { result ≡ list_all name_byte text.now }
 {
-    for i in 0..text.len() {
-        if !is_name_byte(text[i]) {
-            return false;
-        }
+    text.iter().all(|b| is_name_byte(*b))
+}
+
+/// The token of a text that begins at `place`.
+fn token_of(text: &[u8], place: usize) -> Token
+    ensures fits { Fits result }
+    ensures text { text_of result ≡ text.now }
+    ensures place { place_of result ≡ place }
+{
+    if all_digits(text) {
+        Token::Number { text, place }
+    } else if all_name_bytes(text) {
+        Token::Name { text, place }
+    } else {
+        Token::Keyword { text, place }
     }
-    true
 }
 
 impl<'a> Lexer<'a> {
@@ -83,15 +71,17 @@ impl<'a> Lexer<'a> {
             return None;
         }
         let place = self.at;
-        let end = field_end(self.text, place);
+        let end = place + count_before(&self.text[place..], Class::Comma);
         self.at = end + 1;
-        let text = &self.text[place..end];
-        if all_digits(text) {
-            return Some(Token::Number { text, place });
-        }
-        if all_name_bytes(text) {
-            return Some(Token::Name { text, place });
-        }
-        Some(Token::Keyword { text, place })
+        Some(token_of(&self.text[place..end], place))
+    }
+
+    /// The next field, of the kind that its bytes say.
+    pub(crate) fn next_field(&mut self) -> Option<Field<'a>>
+        ensures text { self.new.text.now ≡ self.old.text.now }
+        ensures next { Next self.old.text.now self.old.at self.new.at (option_map (λ f. f.token) result) }
+    {
+        let token = self.next_token()?;
+        Some(Field { token })
     }
 }

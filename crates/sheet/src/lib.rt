@@ -8,6 +8,8 @@ mod law;
 mod lex;
 mod limits;
 mod line;
+mod lines;
+mod parse;
 mod reader;
 mod table;
 mod token;

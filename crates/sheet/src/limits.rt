@@ -8,6 +8,3 @@ pub const NAME: usize = 12;
 
 /// The most digits of a number.
 pub(crate) const DIGITS: usize = 5;
-
-/// The highest number.
-pub(crate) const HIGHEST: u32 = 65_535;

@@ -1,8 +1,8 @@
 //! What a sheet holds: its head, and a task in each entry of a table.
-ghost use Rattle.std.specs.Prelude.{◌≡◌, map, take, drop};
+ghost use Rattle.std.specs.Prelude.{◌≡◌, map};
 ghost use Rattle.sheet.specs.Reading.{name_of};
 
-use packing::SHEET_TASKS;
+use packing::{Load, Opening, SHEET_TASKS};
 
 /// The head of a sheet, and how many tasks follow it.
 #[derive(Clone, Copy, PartialEq, Eq, Debug)]
@@ -13,8 +13,26 @@ pub struct Head {
     pub tasks: usize,
 }
 
+impl Head {
+    /// The opening of a run with the numbers of this head, for tasks of these rates.
+    pub fn opening<'a>(self, rates: &'a [u16]) -> Opening<'a>
+        ensures head { (result.load.cores ≡ self.cores) × (result.load.unit ≡ self.unit) × (result.frames ≡ self.frames) }
+        ensures rates { result.load.rates.now ≡ rates.now }
+    {
+        let load = Load {
+            cores: u32::from(self.cores),
+            unit: u32::from(self.unit),
+            rates,
+        };
+        Opening {
+            load,
+            frames: u32::from(self.frames),
+        }
+    }
+}
+
 /// A task. All is 0 in an entry that has none.
-#[derive(Clone, Copy, PartialEq, Eq, Debug)]
+#[derive(Clone, Copy, Default, PartialEq, Eq, Debug)]
 pub struct Entry {
     /// where its name begins in the sheet
     pub place: usize,
@@ -37,29 +55,8 @@ impl Entry {
     pub fn name(self, sheet: &[u8]) -> &[u8]
         ensures { result.now ≡ name_of sheet.now self }
     {
-        part(sheet, self.place, self.size)
-    }
-}
-
-/// The bytes of the sheet from `place` on, at most `size` of them.
-fn part(sheet: &[u8], place: usize, size: usize) -> &[u8]
-    ensures { result.now ≡ take size (drop place sheet.now) }
-{
-    if place >= sheet.len() {
-        return &sheet[0..0];
-    }
-    if size > sheet.len() - place {
-        return &sheet[place..sheet.len()];
-    }
-    &sheet[place..place + size]
-}
-
-/// Writes the rates of the entries, in order.
-fn write_rates(table: &[Entry; SHEET_TASKS], rates: &mut [u16; SHEET_TASKS])
-    ensures { rates.new ≡ map (λ e. e.rate) table.now }
-{
-    for i in 0..SHEET_TASKS {
-        rates[i] = table[i].rate;
+        let rest = sheet.get(self.place..).unwrap_or(&[]);
+        rest.get(..self.size).unwrap_or(rest)
     }
 }
 
@@ -67,7 +64,5 @@ fn write_rates(table: &[Entry; SHEET_TASKS], rates: &mut [u16; SHEET_TASKS])
 pub fn rates(table: &[Entry; SHEET_TASKS]) -> [u16; SHEET_TASKS]
     ensures { result ≡ map (λ e. e.rate) table.now }
 {
-    let mut rates = [0; SHEET_TASKS];
-    write_rates(table, &mut rates);
-    rates
+    table.map(|entry| entry.rate)
 }

@@ -19,9 +19,8 @@ impl<'a> Token<'a> {
         ensures { result.now ≡ text_of self.entry }
     {
         match self {
-            Token::Name { text, place: _ } => text,
-            Token::Number { text, place: _ } => text,
-            Token::Keyword { text, place: _ } => text,
+            Token::Name { text, .. } | Token::Number { text, .. } | Token::Keyword { text, .. } =>
+                text,
         }
     }
 
@@ -30,9 +29,9 @@ impl<'a> Token<'a> {
         ensures { result ≡ place_of self.entry }
     {
         match self {
-            Token::Name { text: _, place } => place,
-            Token::Number { text: _, place } => place,
-            Token::Keyword { text: _, place } => place,
+            Token::Name { place, .. }
+            | Token::Number { place, .. }
+            | Token::Keyword { place, .. } => place,
         }
     }
 }

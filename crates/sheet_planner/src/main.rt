@@ -2,31 +2,28 @@
 //! and the place of its refusal, and ends with status 1.
 #![tactic(auto)]
 
+mod names;
 mod show;
 
+use names::Sheet;
 use packing::rules::FirstFit;
 use packing::{Plan, SHEET_TASKS};
-use sheet::{Entry, Fault, Head, LONGEST, rates, read};
-use show::{Sheet, print_fault, print_plan};
+use sheet::{Entry, Fault, LONGEST, rates, read};
+use show::print_plan;
 use std::io;
 use std::io::Read;
 
 /// Reads a sheet into the table and makes its plan.
-fn plan_sheet(
-    bytes: &[u8],
-    table: &mut [Entry; SHEET_TASKS],
+fn plan_sheet<'a>(
+    bytes: &'a [u8],
+    table: &'a mut [Entry; SHEET_TASKS],
     plan: &mut Plan,
-) -> Result<Head, Fault> {
+) -> Result<Sheet<'a>, Fault> {
     let head = read(bytes, table)?;
     let rates = rates(table);
-    plan.make_for_run(
-        &FirstFit,
-        u32::from(head.cores),
-        u32::from(head.unit),
-        u32::from(head.frames),
-        &rates[..head.tasks],
-    )?;
-    Ok(head)
+    plan.make_for_run(&FirstFit, &head.opening(&rates[..head.tasks]))?;
+    let tasks = &table[..head.tasks];
+    Ok(Sheet { bytes, head, tasks })
 }
 
 fn main(rt: HostRuntime) -> io::Result<()> {
@@ -35,16 +32,9 @@ fn main(rt: HostRuntime) -> io::Result<()> {
     let mut table = [Entry::BLANK; SHEET_TASKS];
     let mut plan = Plan::blank();
     match plan_sheet(&bytes, &mut table, &mut plan) {
-        Ok(head) => {
-            let sheet = Sheet {
-                bytes: &bytes,
-                head,
-                table: &table,
-            };
-            print_plan(&rt, sheet, &plan)
-        }
+        Ok(sheet) => print_plan(&rt, &sheet, &plan),
         Err(fault) => {
-            print_fault(&rt, fault)?;
+            println!(rt; "{fault}")?;
             Err(io::Error::from(io::ErrorKind::InvalidData))
         }
     }

@@ -19,7 +19,7 @@ enum State {
 
 /// The value of a hexadecimal digit; 0 for any other byte.
 fn digit(b: u8) -> u8 {
-    match b as char {
+    match char::from(b) {
         '0'..='9' => b.saturating_sub(b'0'),
         'A'..='F' => b.saturating_sub(b'A').saturating_add(10),
         _ => 0,
@@ -35,7 +35,7 @@ fn step(state: State, b: u8, out: &mut Vec<u8>) -> Result<State, AllocError> {
             }
             out.push(b)?;
         }
-        State::Backslash => match b as char {
+        State::Backslash => match char::from(b) {
             'x' => return Ok(State::High),
             '*' => return Ok(State::Count(4, 0)),
             'n' => out.push(b'\n')?,

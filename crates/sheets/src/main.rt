@@ -13,57 +13,34 @@ use std::io::{BufRead, BufReader};
 
 /// How many entries are not blank.
 fn filled(table: &[Entry]) -> usize {
-    let mut count = 0usize;
-    for entry in table.iter() {
-        if *entry != Entry::BLANK {
-            count = count.saturating_add(1);
-        }
-    }
-    count
+    table.iter().filter(|entry| **entry != Entry::BLANK).count()
 }
 
 /// The reductions of the plan of a sheet that was read.
 fn reductions(head: Head, rates: &[u16]) -> Result<usize, Fault> {
     let mut plan = Plan::blank();
-    plan.make_for_run(
-        &FirstFit,
-        u32::from(head.cores),
-        u32::from(head.unit),
-        u32::from(head.frames),
-        rates,
-    )?;
+    plan.make_for_run(&FirstFit, &head.opening(rates))?;
     Ok(plan.reductions())
-}
-
-/// Prints the number, the line and the place of a fault.
-fn print_fault(rt: &HostRuntime, fault: Fault) -> io::Result<()> {
-    let number = fault.number();
-    let line = fault.line;
-    let place = fault.place;
-    print!(rt; "no,{number},{line},{place}")
 }
 
 /// Prints the head and the reductions of the plan, or why there is no plan.
 fn print_head(rt: &HostRuntime, head: Head, plan: Result<usize, Fault>) -> io::Result<()> {
     match plan {
-        Ok(reductions) => {
-            let cores = head.cores;
-            let unit = head.unit;
-            let frames = head.frames;
-            print!(rt; "ok,{cores},{unit},{frames},{reductions}")
-        }
-        Err(fault) => print_fault(rt, fault),
+        Ok(reductions) => print!(rt;
+            "ok,{},{},{},{reductions}",
+            head.cores, head.unit, head.frames
+        ),
+        Err(fault) => print!(rt; "{fault}"),
     }
 }
 
 /// Prints the tasks: place and size of the name, rate and period of each.
 fn print_tasks(rt: &HostRuntime, tasks: &[Entry]) -> io::Result<()> {
     for entry in tasks.iter() {
-        let place = entry.place;
-        let size = entry.size;
-        let rate = entry.rate;
-        let period = entry.period;
-        print!(rt; " {place},{size},{rate},{period}")?;
+        print!(rt;
+            " {},{},{},{}",
+            entry.place, entry.size, entry.rate, entry.period
+        )?;
     }
     Ok(())
 }
@@ -82,10 +59,9 @@ fn try_sheet(rt: &HostRuntime, bytes: &[u8]) -> io::Result<()> {
             print_head(rt, head, reductions(head, &rates[..head.tasks]))?;
             print_tasks(rt, &table[..head.tasks])?;
         }
-        Err(fault) => print_fault(rt, fault)?,
+        Err(fault) => print!(rt; "{fault}")?,
     }
-    let filled = filled(&table);
-    println!(rt; " filled {filled}")
+    println!(rt; " filled {}", filled(&table))
 }
 
 fn main(rt: HostRuntime) -> io::Result<()> {

@@ -1,8 +1,9 @@
 -- What a field that is read as a number writes. Assumes nothing.
-use Rattle.std.proofs.Common.{◌≡◌, ℕ, ◌^◌, ◌<◌, ◌≤◌, List, [], ◌∷◌, length, get_or, Some, None, Ok, Err, decimal, Result, sym, ap, ◌∙◌, subst, inl, inr, arith}
+use Rattle.std.proofs.Common.{◌≡◌, ℕ, ◌^◌, ◌<◌, ◌≤◌, List, [], ◌∷◌, length, get_or, Some, None, Ok, Err, decimal, leb, Result, sym, ap, ◌∙◌, subst, inl, inr, arith}
 use Rattle.std.proofs.lemmas.Fmt.{decimal_nonempty, decimal_digit, first_decimal, digits_decimal, digits_value-decimal, decimal-digits_value, decimal_injective}
 use Rattle.std.proofs.lemmas.Str.Parse.{IsNumeralModel, numerals_by_value, tells_digits, not_in_digits, parse_plain}
-use Rattle.std.proofs.lemmas.Bool.{cases_lt}
+use Rattle.std.proofs.lemmas.Bool.{cases_lt, le-leb, lt-leb}
+use Rattle.std.specs.Bool.{then_some}
 use Rattle.std.specs.Result.{OkIff, result_ok}
 use Rattle.std.specs.Str.Parse.{AllDigits, digits_value, ParsesUnsigned}
 use Rattle.trials.specs.Reading.{ReadsUpTo}
@@ -44,3 +45,10 @@ pub above_is_none : (bs : List ℕ) (n most : ℕ) → ReadsUpTo 4294967295 bs (
 above_is_none bs n most told above low m few e =
     let bound : n ≤ 4294967295 = told.0 in
     let same : m ≡ n = decimal_injective m n (omega arith) (omega arith) (sym e ∙ told.1) in absurd (omega arith)
+
+-- A number, unless it is above the highest.
+pub up_to : (bs : List ℕ) (n most : ℕ) → ReadsUpTo 4294967295 bs (Some n) → most ≤ 65535 → ReadsUpTo most bs (then_some (leb n most) n)
+up_to bs n most told low = elim (cases_lt most n) [
+  | inl more ↦ subst (ReadsUpTo most bs) (sym (ap (λ b. then_some b n) (lt-leb n most more))) (above_is_none bs n most told more low)
+  | inr few ↦ subst (ReadsUpTo most bs) (sym (ap (λ b. then_some b n) (le-leb n most few))) (few, told.1)
+]

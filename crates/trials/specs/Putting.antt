@@ -1,29 +1,31 @@
 -- What is answered to a call of the table, in the words of the contracts of a run. A reader of the contracts has to believe this file.
-use Rattle.std.specs.Prelude.{◌≡◌, ℕ, min, take, replicate, Some, Ok, Err, vec_items, Result}
+use Rattle.std.specs.Prelude.{◌≡◌, ℕ, min, length, replicate, Some, Ok, Err, vec_items, Result}
 use Rattle.packing.specs.declared.opening.OpeningRefusal.{OpeningRefusal}
 use Rattle.packing.specs.Fitting.{Rule as Fitting}
-use Rattle.packing.specs.Openings.{opening_row}
 use Rattle.packing.specs.Rules.{first_fit, best_fit, worst_fit}
 use Rattle.choosing.specs.Choosing.{Rule}
 use Rattle.choosing.specs.Rules.{earliest_deadline, least_slack}
 use Rattle.ledger.specs.Answering.{refusal}
-use Rattle.ledger.specs.Calls.{announce, tick, ask, number, truth, present_tick, left_of, deadline_of, is_awaited, reductions_made, jobs_begun, preemptions_made, Question as RunQuestion, Answer as RunAnswer, done, named}
+use Rattle.ledger.specs.Calls.{announce, tick, ask, Answer as RunAnswer, named}
+use Rattle.run.specs.declared.call.Reply.TheVariants.{Done}
 use Rattle.run.specs.declared.refusal.Refusal.{Refusal}
 use Rattle.run.specs.declared.state.State.{State}
-use Rattle.run.specs.Refusals.{row, by_number}
+use Rattle.run.specs.Refusals.{by_number}
+use Rattle.run.specs.Replays.{question_of, reply_of}
 use Rattle.run.specs.Runs.{OpenedAs, Follows, AsFound, GrantedTick, announced, figures_of}
-use Rattle.trials.specs.declared.answer.Answer.{Answer}
-use Rattle.trials.specs.declared.answer.Answer.TheVariants.{Refused, Granted, Cores, Number, Truth}
+use Rattle.trials.specs.declared.answer.Refused.{Refused}
+use Rattle.trials.specs.declared.answer.Refused.TheVariants.{Opening, Call as AtCall}
+use Rattle.trials.specs.declared.answer.Reply.{Reply}
+use Rattle.trials.specs.declared.answer.Reply.TheVariants.{Told, Cores}
 use Rattle.trials.specs.declared.call.Fit.{Fit}
 use Rattle.trials.specs.declared.call.Fit.TheVariants.{First, Best, Worst}
 use Rattle.trials.specs.declared.call.Choose.{Choose}
 use Rattle.trials.specs.declared.call.Choose.TheVariants.{Earliest, Slack}
-use Rattle.trials.specs.declared.call.Question.{Question}
-use Rattle.trials.specs.declared.call.Question.TheVariants.{Tick as PresentTick, Reductions, Jobs, Preemptions, Left, Deadline, Awaited}
 use Rattle.trials.specs.declared.call.Load.{Load}
 use Rattle.trials.specs.declared.call.Call.{Call}
 use Rattle.trials.specs.declared.call.Call.TheVariants.{Open, Announce, Tick, Ask}
 use Rattle.trials.specs.declared.runs.Runs.{Runs}
+use Rattle.trials.specs.Printing.{row_of}
 
 -- ---- the words of the table, in those of a run
 
@@ -32,31 +34,24 @@ fitting First = first_fit
 fitting Best = best_fit
 fitting Worst = worst_fit
 
-abbrev pub asked : Question → RunQuestion
-asked PresentTick = present_tick
-asked Reductions = reductions_made
-asked Jobs = jobs_begun
-asked Preemptions = preemptions_made
-asked (Left i) = left_of i
-asked (Deadline i) = deadline_of i
-asked (Awaited i) = is_awaited i
+-- A call of the table gets a reply or is refused.
+abbrev pub Answer : Type 0
+Answer = Result Reply Refused
 
 abbrev pub said : Answer → RunAnswer
-said (Refused n task) = by_number n task
-said Granted = done
-said (Cores list entries) = named (take entries list)
-said (Number n) = number n
-said (Truth b) = truth b
+said (Ok (Told r)) = reply_of r
+said (Ok (Cores list)) = named list.items
+said (Err e) = by_number (row_of e).number (row_of e).task
 
 -- The answer to an opening.
 abbrev pub opening_answer : {Done : Type 0} → Result Done OpeningRefusal → Answer
-opening_answer (Ok _) = Granted
-opening_answer (Err e) = Refused (opening_row e).number (opening_row e).task
+opening_answer (Ok _) = Ok (Told Done)
+opening_answer (Err e) = Err (Opening e)
 
 -- The answer to an announcement.
 abbrev pub announcing_answer : {Done : Type 0} → Result Done Refusal → Answer
-announcing_answer (Ok _) = Granted
-announcing_answer (Err e) = Refused (row e).number (row e).task
+announcing_answer (Ok _) = Ok (Told Done)
+announcing_answer (Err e) = Err (AtCall e)
 
 -- ---- what follows from a call: the run before it, the answer, the run after it
 
@@ -70,18 +65,16 @@ AnnouncedSo choose i d s answer s' = (told : Result (Unit {0}) Refusal) × (answ
 
 -- A tick that is granted tells the whole core list, each entry of which was 255.
 abbrev pub TickedSo : Rule → ℕ → State → Answer → State → Type 0
-TickedSo choose n s (Refused row_number task) s' = (Some (by_number row_number task) ≡ refusal (figures_of s) (tick n)) × (s' ≡ s)
-TickedSo choose n s (Cores list entries) s' = (entries ≡ n) × GrantedTick choose s (replicate n 255) s' (take n list)
-TickedSo choose n s Granted s' = ⊥
-TickedSo choose n s (Number _) s' = ⊥
-TickedSo choose n s (Truth _) s' = ⊥
+TickedSo choose n s (Err e) s' = (Some (by_number (row_of e).number (row_of e).task) ≡ refusal (figures_of s) (tick n)) × (s' ≡ s)
+TickedSo choose n s (Ok (Cores list)) s' = (length list.items ≡ n) × GrantedTick choose s (replicate n 255) s' list.items
+TickedSo choose n s (Ok (Told _)) s' = ⊥
 
 -- A core list has at most 20 entries.
 abbrev pub Put : Rule → Call → State → Answer → State → Type 0
 Put choose (Open fit _ load) s answer s' = OpenedSo choose fit load s answer s'
 Put choose (Announce i d) s answer s' = AnnouncedSo choose i d s answer s'
 Put choose (Tick entries) s answer s' = TickedSo choose (min entries 20) s answer s'
-Put choose (Ask q) s answer s' = Follows choose s (ask (asked q)) (said answer) s × (s' ≡ s)
+Put choose (Ask q) s answer s' = Follows choose s (ask (question_of q)) (said answer) s × (s' ≡ s)
 
 -- ---- which run a call goes to
 

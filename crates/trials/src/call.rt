@@ -1,6 +1,7 @@
 //! A line of the table, read as a call.
 ghost use Rattle.trials.specs.Reading.{Reads, ReadsUpTo, Any, fit_word, choose_word};
 
+use run::Question;
 use std::alloc::{AllocError, Global};
 
 /// The most entries of a core list.
@@ -19,18 +20,6 @@ pub(crate) enum Fit {
 pub(crate) enum Choose {
     Earliest,
     Slack,
-}
-
-/// A question about a run, or about a task of it.
-#[derive(Clone, Copy)]
-pub(crate) enum Question {
-    Tick,
-    Reductions,
-    Jobs,
-    Preemptions,
-    Left(usize),
-    Deadline(usize),
-    Awaited(usize),
 }
 
 /// A load and its frames: so many cores, parts in one whole core, frames, and the rate of each task.
@@ -72,33 +61,22 @@ fn number(field: &str) -> Option<u32>
     if bytes.len() > 1 && bytes[0] == b'0' {
         return None;
     }
-    field.parse::<u32>().ok()
+    field.parse().ok()
 }
 
 /// The number that a field writes, unless it is above the highest.
 fn number_up_to(most: u16, field: &str) -> Option<u16>
     ensures { ReadsUpTo most field.now result }
 {
-    match number(field) {
-        Some(n) => {
-            if n <= u32::from(most) {
-                Some(n as u16)
-            } else {
-                None
-            }
-        }
-        None => None,
-    }
+    let number = u16::try_from(number(field)?).ok()?;
+    (number <= most).then_some(number)
 }
 
 /// The number of a task.
 fn task(field: &str) -> Option<usize>
     ensures { ReadsUpTo 4294967295 field.now result }
 {
-    match number(field) {
-        Some(n) => Some(n as usize),
-        None => None,
-    }
+    number(field).map(|n| n as usize)
 }
 
 fn fit_of(field: &str) -> Option<Fit>
@@ -125,11 +103,11 @@ fn choose_of(field: &str) -> Option<Choose>
 /// The rates of an opening, if each field is one.
 fn rates(heap: Global, fields: &[&str]) -> Result<Option<Vec<u16>>, AllocError> {
     let mut rates = Vec::new(heap);
-    for field in fields.iter() {
-        match number_up_to(u16::MAX, field) {
-            Some(rate) => rates.push(rate)?,
-            None => return Ok(None),
-        }
+    for field in fields {
+        let Some(rate) = number_up_to(u16::MAX, field) else {
+            return Ok(None);
+        };
+        rates.push(rate)?;
     }
     Ok(Some(rates))
 }
@@ -152,7 +130,7 @@ fn opening(rules: (&str, &str), head: (&str, &str, &str), rates: Option<Vec<u16>
 /// A question by its fields, the first of which asks.
 fn question_of(fields: &[&str]) -> Option<Question> {
     match fields {
-        ["ask", "tick"] => Some(Question::Tick),
+        ["ask", "tick"] => Some(Question::PresentTick),
         ["ask", "reductions"] => Some(Question::Reductions),
         ["ask", "jobs"] => Some(Question::Jobs),
         ["ask", "preemptions"] => Some(Question::Preemptions),

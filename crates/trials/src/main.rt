@@ -23,10 +23,10 @@ fn main(rt: HostRuntime) -> io::Result<()> {
             Err(_) => None,
         };
         match call {
-            Some(call) => {
-                let answer = runs.put(&call);
-                writeln!(out, " {answer}")?;
-            }
+            Some(call) => match runs.put(&call) {
+                Ok(reply) => writeln!(out, " {reply}")?,
+                Err(refused) => writeln!(out, " {refused}")?,
+            },
             None => writeln!(out, " ?")?,
         }
     }

@@ -1,11 +1,7 @@
 use Rattle.std.proofs.Common.{◌≡◌, ℕ, length, sym, ◌∙◌, subst, arith}
 use Rattle.choosing.specs.Bests.{Best, best_is_first}
-use Rattle.choosing.specs.Lawfulness.{many_none, few_first}
+use Rattle.choosing.specs.Lawfulness.{few_first}
 use Rattle.choosing.proofs.rules.preferred.Goals as goal
-
-pub returns-then-clients-gt-CLIENTS : goal.returns-then-clients-gt-CLIENTS
-returns-then-clients-gt-CLIENTS g c =
-    sym (many_none (g.P.Preference.beats c.args.preference.now c.args.server) c.args.clients.now (omega arith))
 
 pub returns : goal.returns
 returns g c =

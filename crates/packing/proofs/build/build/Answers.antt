@@ -1,58 +1,86 @@
-use Rattle.std.proofs.Common.{◌<◌, ◌≤◌, length, take, refl, ap, ◌∙◌, ⊎_elim, arith, rules}
-use Rattle.std.proofs.lemmas.List.{length-set, length-take-le}
-use Rattle.std.proofs.lemmas.Bool.{both_ways}
-use Rattle.packing.specs.Packing.{servers_of}
+use Rattle.std.proofs.Common.{◌++◌, ◌∷◌, [], map, length, refl, sym, ap, ◌∙◌, subst, arith}
+use Rattle.std.proofs.lemmas.Bool.{false≢true}
+use Rattle.packing.specs.Plan.{duals, IsPlan}
+use Rattle.packing.specs.Tables.{packing_in}
 use Rattle.packing.proofs.Plans.{one_small_plan}
-use Rattle.packing.proofs.Reached.{reached_none, few_servers, few_levels, part, turn_all, turn_more}
+use Rattle.packing.proofs.Reached.{Reached, reached_none, few_servers, few_levels, reached_all, reached_more, packed_some, packed_is}
 use Rattle.packing.proofs.build.build.Goals as goal
 
-pub loop-depth-init : goal.loop-depth-init
-loop-depth-init g c =
+pub unwrap-level-requires : goal.unwrap-level-requires
+unwrap-level-requires g c =
     let rule = g.F.Fitting.fits c.args.rule.now in
-    let tasks = take c.args.tasks c.args.rates in
-    let full = c.requires.1 in (
-      c.requires.0,
-      search rules,
-      refl,
-      reached_none rule c.args.unit full.0 tasks (one_small_plan rule (g.met.F.Fitting.lawful c.args.rule.now) c.args.unit full.0 tasks full.1),
-    )
+    let items = c.args.rates.items in
+    let full = c.requires in
+    let one = one_small_plan rule (g.met.F.Fitting.lawful c.args.rule.now) c.args.unit full.0 items full.1 in
+    packed_some rule c.args.unit items _ c.deref.ensures.0 _ c.pack.ensures
+    (omega (arith, ap length c.deref.ensures.0, c.deref.ensures.1)) (few_servers rule c.args.unit items [] items (reached_none rule c.args.unit full.0 items one))
 
-pub unreachable-requires : goal.unreachable-requires
-unreachable-requires g c =
+pub loop-level-init : goal.loop-level-init
+loop-level-init g c =
     let rule = g.F.Fitting.fits c.args.rule.now in
-    let items = take c.loop-depth.count c.loop-depth.items in
-    let few : length (servers_of rule c.args.unit items) ≤ 31 =
-    few_servers rule c.args.unit (take c.args.tasks c.args.rates) c.loop-depth.depth c.loop-depth.levels items c.loop-depth.invariant.3 in
-    let same = part c.loop-depth.count c.loop-depth.items in
-    let count = length-take-le c.loop-depth.count c.loop-depth.items (omega arith) in
-    ⊎_elim
-    (λ many. omega (arith, many, ap length same, count))
-    (λ many. omega (arith, many, few, ap (λ xs. length (servers_of rule c.args.unit xs)) same))
-    c.in_default.ensures
+    let items = c.args.rates.items in
+    let full = c.requires in
+    let one = one_small_plan rule (g.met.F.Fitting.lawful c.args.rule.now) c.args.unit full.0 items full.1 in
+    record {
+      items = items;
+      packed = packed_is rule c.args.unit items _ c.deref.ensures.0 _ c.pack.ensures c.unwrap-level.result c.unwrap-level.ensures;
+      reached = rw c.new-levels.ensures (reached_none rule c.args.unit full.0 items one);
+    }
 
-pub returns-then-only_roots : goal.returns-then-only_roots
-returns-then-only_roots g c =
-    let end =
-    turn_all (g.F.Fitting.fits c.args.rule.now) c.args.unit (take c.args.tasks c.args.rates) c.loop-depth.depth c.loop-depth.levels
-    c.loop-depth.count c.loop-depth.items c.loop-depth.invariant.3 c.in-Some.level c.in-Some.ensures.2 (c.if-only_roots.ensures.0 refl) in
-    let depth = end.2 in
-    let levels = end.3 in
-    (end.0, end.1, cc)
+pub unwrap-above-requires : goal.unwrap-above-requires
+unwrap-above-requires g c =
+    let rule = g.F.Fitting.fits c.args.rule.now in
+    let items = c.args.rates.items in
+    let done = c.loop-level.levels.items in
+    let level = c.loop-level.level in
+    let above = duals c.args.unit level.rates.items in
+    let test = c.loop-level-test.ensures in
+    let next = reached_more rule c.args.unit items done level c.loop-level.invariant (λ roots. false≢true (test.1 roots)) in
+    let same = c.deref-in-loop-level.ensures.0 ∙ c.duals.ensures in
+    packed_some rule c.args.unit above _ same _ c.pack-in-loop-level.ensures
+    (omega (arith, ap length same, c.deref-in-loop-level.ensures.1)) (few_servers rule c.args.unit items (done ++ level ∷ []) above next)
 
-pub loop-depth-preserved : goal.loop-depth-preserved
-loop-depth-preserved g c =
-    let packed = c.in-Some.ensures in (
-      omega (arith, packed.1, ap (λ l. l.servers) packed.2),
-      c.write_duals.auto.table ∙ c.loop-depth.invariant.1,
-      length-set c.loop-depth.levels c.loop-depth.depth c.in-Some.level ∙ c.loop-depth.invariant.2,
-      turn_more (g.F.Fitting.fits c.args.rule.now) c.args.unit (take c.args.tasks c.args.rates) c.loop-depth.depth c.loop-depth.levels
-          c.loop-depth.count c.loop-depth.items c.loop-depth.invariant.3 c.in-Some.level packed.2
-          (λ roots. both_ways _ c.if-only_roots.false (c.only_roots.ensures.1 roots)) _ _ c.write_duals.ensures,
-    )
+pub push-requires : goal.push-requires
+push-requires g c =
+    (omega arith, few_levels (g.F.Fitting.fits c.args.rule.now) c.args.unit c.args.rates.items c.loop-level.levels.items c.loop-level.level c.loop-level.invariant)
 
-pub unreachable-requires-2 : goal.unreachable-requires-2
-unreachable-requires-2 g c =
-    let few : c.loop-depth.depth < 5 =
-    few_levels (g.F.Fitting.fits c.args.rule.now) c.args.unit (take c.args.tasks c.args.rates) c.loop-depth.depth c.loop-depth.levels
-    (take c.loop-depth.count c.loop-depth.items) c.loop-depth.invariant.3 in
-    omega arith
+pub loop-level-smaller : goal.loop-level-smaller
+loop-level-smaller g c =
+    let few =
+    few_levels (g.F.Fitting.fits c.args.rule.now) c.args.unit c.args.rates.items c.loop-level.levels.items c.loop-level.level c.loop-level.invariant in
+    omega (arith, few, c.push.ensures.len)
+
+pub loop-level-preserved : goal.loop-level-preserved
+loop-level-preserved g c =
+    let rule = g.F.Fitting.fits c.args.rule.now in
+    let items = c.args.rates.items in
+    let done = c.loop-level.levels.items in
+    let level = c.loop-level.level in
+    let above = duals c.args.unit level.rates.items in
+    let test = c.loop-level-test.ensures in
+    record {
+      items = above;
+      packed =
+          packed_is rule c.args.unit above _ (c.deref-in-loop-level.ensures.0 ∙ c.duals.ensures) _ c.pack-in-loop-level.ensures
+          c.unwrap-above.result c.unwrap-above.ensures;
+      reached =
+          subst (λ ls. Reached rule c.args.unit items ls above) (sym c.push.ensures.items)
+          (reached_more rule c.args.unit items done level c.loop-level.invariant (λ roots. false≢true (test.1 roots)));
+    }
+
+pub push-requires-2 : goal.push-requires-2
+push-requires-2 g c =
+    (omega arith, few_levels (g.F.Fitting.fits c.args.rule.now) c.args.unit c.args.rates.items c.loop-level.levels.items c.loop-level.level c.loop-level.invariant)
+
+pub returns : goal.returns
+returns g c =
+    let rule = g.F.Fitting.fits c.args.rule.now in
+    let items = c.args.rates.items in
+    let test = c.loop-level-test.ensures in
+    record {
+      unit_kept = refl;
+      tasks_kept = refl;
+      is_plan =
+          subst (λ ls. IsPlan rule c.args.unit items (map packing_in ls)) (sym c.push-2.ensures.items)
+          (reached_all rule c.args.unit items c.loop-level.levels.items c.loop-level.level c.loop-level.invariant (test.0 refl));
+    }

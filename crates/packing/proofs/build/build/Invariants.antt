@@ -1,9 +1,10 @@
-use Rattle.std.proofs.Common.{◌≡◌, ◌≤◌, length, take}
-use Rattle.packing.proofs.Reached.{Reached}
+use Rattle.std.proofs.Common.{◌-◌, length}
+use Rattle.packing.proofs.Reached.{ReachedLevel}
 use Rattle.packing.proofs.build.build.Given as goal
 
--- the levels so far stand in the table, and the items of the next are at hand
-abbrev pub invariant-loop-depth : goal.invariant-loop-depth
-invariant-loop-depth g l =
-    (l.count ≤ 80) × (length l.items ≡ 80) × (length l.levels ≡ 5)
-    × Reached (g.F.Fitting.fits l.rule) l.unit (take l.tasks l.rates) l.depth l.levels (take l.count l.items)
+-- the levels so far are the first of the plan, and the next one is at hand
+abbrev pub invariant-loop-level : goal.invariant-loop-level
+invariant-loop-level g l = ReachedLevel (g.F.Fitting.fits l.rule) l.unit l.rates.items l.levels.items l.level
+
+abbrev pub decreases-loop-level : goal.decreases-loop-level
+decreases-loop-level g l = 5 - length l.levels.items

@@ -1,14 +1,6 @@
-use Rattle.std.proofs.Common.{◌≡◌, arith, rules}
-use Rattle.std.proofs.lemmas.List.{length-take}
-use Rattle.cores.specs.Counting.{preemptions}
-use Rattle.run.specs.Views.{numbers_of}
+use Rattle.std.proofs.Common.{arith}
 use Rattle.run.proofs.Unfinished.{preempted_few}
 use Rattle.run.proofs.counting.preempted_of.Goals as goal
 
-pub returns : goal.returns
-returns c =
-    let is : c.preempted.result ≡ preemptions (numbers_of c.args.unfinished.now) (numbers_of c.args.named.now) = search rules in
-    record {
-      count = is;
-      few = omega (arith, preempted_few (numbers_of c.args.unfinished.now) (numbers_of c.args.named.now), length-take c.args.unfinished.now.count c.args.unfinished.now.tasks, c.requires.0);
-    }
+pub returns-clause-few : goal.returns-clause-few
+returns-clause-few c = omega (arith, c.preempted.ensures, preempted_few c.deref.result.now c.deref-2.result.now, c.deref.ensures.1)

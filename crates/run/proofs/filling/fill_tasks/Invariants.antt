@@ -5,4 +5,4 @@ use Rattle.run.specs.Opened.{each, unbegun_task}
 use Rattle.run.proofs.filling.fill_tasks.Given as goal
 
 abbrev pub invariant-loop-i : goal.invariant-loop-i
-invariant-loop-i l = l.tasks ≡ over (each unbegun_task (take l.i l.plan.rates) (homes_in (levels_in l.plan))) l.initial.tasks
+invariant-loop-i l = l.tasks ≡ over (each unbegun_task (take l.i l.plan.rates.items) (homes_in (levels_in l.plan))) l.initial.tasks

@@ -1,9 +1,12 @@
-use Rattle.std.proofs.Common.{◌∙◌, arith}
-use Rattle.run.proofs.Written.{homes_at, homes_past}
+use Rattle.std.proofs.Common.{◌<◌, length, sym, ◌∙◌}
+use Rattle.std.proofs.lemmas.Bool.{ltb-true}
+use Rattle.run.proofs.Written.{homes_at}
 use Rattle.run.proofs.filling.home_in.Goals as goal
 
-pub returns-then-level-plan : goal.returns-then-level-plan
-returns-then-level-plan c = c.home.ensures ∙ homes_at c.args.plan.now c.args.level c.args.item c.if-level-plan.true (omega arith)
-
-pub returns-else-level-plan : goal.returns-else-level-plan
-returns-else-level-plan c = homes_past c.args.plan.now c.args.level c.args.item c.if-level-plan.false
+pub returns : goal.returns
+returns c =
+    let found = c.in_ok-get.ensures.lookup in
+    let deep : c.args.level < length c.deref.result.now = ltb-true _ _ (sym found.0) in
+    c.home.ensures
+    ∙ homes_at c.args.plan.now c.args.level c.args.item c.in_ok-get.field-0.now
+    (rw c.deref.ensures.0 at deep) (rw c.deref.ensures.0 at found.1)

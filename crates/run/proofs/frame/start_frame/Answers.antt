@@ -1,29 +1,22 @@
-use Rattle.std.proofs.Common.{refl}
-use Rattle.run.proofs.Starting.{start_items, start_phased, midst_phased, over_phased, has_unit}
+use Rattle.std.proofs.Common.{◌≡◌, ◌*◌, ◌%◌, ◌<◌, sym, ◌∙◌}
+use Rattle.std.proofs.lemmas.Bool.{leb-true, leb-false, eqb-true, eqb-false}
+use Rattle.run.proofs.Starting.{start_phased, midst_phased, over_phased, has_unit}
 use Rattle.run.proofs.frame.start_frame.Goals as goal
-use Rattle.run.proofs.frame.start_frame.Goals.{else-state-via-then-state+else-state-eq0, else-state-via-else-state}
+use Rattle.run.proofs.frame.start_frame.Goals.{else-not-is_over-via-then-not-is_over+else-starts_frame, else-not-is_over-via-else-not-is_over}
 
-pub returns-then-state-eq0 : goal.returns-then-state-eq0
-returns-then-state-eq0 c =
+pub returns-then-starts_frame-clause-phased : goal.returns-then-starts_frame-clause-phased
+returns-then-starts_frame-clause-phased c =
     let s = c.args.state.now in
-    let b = c.requires.bounds in
-    record {
-      kept = refl;
-      items = start_items s c.requires.unmarked c.start_tasks.new.tasks c.start_tasks.ensures.started;
-      phased = start_phased s c.requires.unmarked c.start_tasks.new.tasks c.start_tasks.ensures.started c.if-state.true
-          (has_unit s.unit s.frames s.tick c.if-state.true) c.if-state-eq0.true;
-      bounds = (b.0, b.1, c.start_tasks.ensures.long, b.3, b.4, b.5, b.6, b.7, b.8, b.9, b.10);
-    }
+    let lasts : s.tick < s.unit * s.frames = leb-false _ _ (sym c.is_over.ensures ∙ c.if-not-is_over.true) in
+    let starts : s.tick % s.unit ≡ 0 = eqb-true _ _ (sym c.starts_frame.ensures ∙ c.if-starts_frame.true) in
+    start_phased s c.requires c.start_tasks.new.tasks (rw c.frame-frame.ensures at c.start_tasks.ensures) lasts (has_unit s.unit s.frames s.tick lasts) starts
 
-pub returns-else-state : goal.returns-else-state
-returns-else-state c = record {
-  kept = refl;
-  items = λ i. refl;
-  phased =
-      let s = c.args.state.now in
-      elim c.else-state.branch [
-        | else-state-via-then-state+else-state-eq0 w ↦ midst_phased s c.requires.unmarked (has_unit s.unit s.frames s.tick w.if-state.true) w.if-state-eq0.false
-        | else-state-via-else-state w ↦ over_phased s c.requires.unmarked w.if-state.false
-      ];
-  bounds = c.requires.bounds;
-}
+pub returns-else-not-is_over-clause-phased : goal.returns-else-not-is_over-clause-phased
+returns-else-not-is_over-clause-phased c =
+    let s = c.args.state.now in
+    elim c.else-not-is_over.branch [
+      | else-not-is_over-via-then-not-is_over+else-starts_frame w ↦
+          let lasts : s.tick < s.unit * s.frames = leb-false _ _ (sym c.is_over.ensures ∙ w.if-not-is_over.true) in
+          midst_phased s c.requires (has_unit s.unit s.frames s.tick lasts) (eqb-false _ _ (sym w.starts_frame.ensures ∙ w.if-starts_frame.false))
+      | else-not-is_over-via-else-not-is_over w ↦ over_phased s c.requires (leb-true _ _ (sym c.is_over.ensures ∙ w.if-not-is_over.false))
+    ]

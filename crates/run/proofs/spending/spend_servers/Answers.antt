@@ -1,4 +1,4 @@
-use Rattle.std.proofs.Common.{◌≡◌, length, take, arith, rules}
+use Rattle.std.proofs.Common.{arith}
 use Rattle.levels.specs.Items.{no_server}
 use Rattle.levels.specs.Ticking.{spend_server, spend_servers}
 use Rattle.run.specs.Views.{flags}
@@ -10,7 +10,5 @@ pub returns : goal.returns
 returns c =
     let duals = flags c.args.dual_named.now in
     let old = c.args.servers.now in
-    let ss = take c.args.count old in
-    let long : length old ≡ 31 = search rules in
-    changed_all no_server (λ q. spend_server (duals q)) old c.loop-j.servers (spend_servers duals ss) c.args.count c.loop-j.j (omega arith) (omega arith) c.loop-j.invariant
-    (length_servers_spent duals ss) (server_spent duals ss)
+    changed_all no_server (λ q. spend_server (duals q)) old c.loop-j.servers (spend_servers duals old) c.loop-j.j (omega arith) c.loop-j.invariant
+    (length_servers_spent duals old) (server_spent duals old)

@@ -1,7 +1,7 @@
 use Rattle.levels.specs.Items.{no_server}
 use Rattle.levels.specs.Ticking.{spend_server}
 use Rattle.run.specs.Views.{flags}
-use Rattle.run.proofs.Tables.{Changed}
+use Rattle.run.specs.Changing.{Changed}
 use Rattle.run.proofs.spending.spend_servers.Given as goal
 
 abbrev pub invariant-loop-j : goal.invariant-loop-j

@@ -1,15 +1,16 @@
-use Rattle.std.proofs.Common.{◌<◌, ap, subst, arith, rules}
+use Rattle.std.proofs.Common.{suc, ◌<◌, length, sym, ap, ◌∙◌, subst, rules}
 use Rattle.std.specs.List.{AllByRecursion}
 use Rattle.cores.specs.Naming.{Names}
-use Rattle.run.specs.Views.{numbers_of}
-use Rattle.run.proofs.Stepping.{each_ticked, end_same, kept_is, listed_runs, machine_is, runs_are, short_run, tick_same, view_is}
+use Rattle.run.specs.Changing.{with_all}
+use Rattle.run.specs.Views.{machine, task_at, view}
+use Rattle.run.proofs.Stepping.{each_ticked, kept_is, listed_runs, machine_is, runs_are, short_run, tick_same, view_is}
 use Rattle.run.proofs.turning.go_on.Goals as goal
 
-pub overflow_add-state : goal.overflow_add-state
-overflow_add-state g c =
+pub advance-requires : goal.advance-requires
+advance-requires g c =
     let e = c.args.state.now in
-    let same = tick_same (g.C.Choosing.chosen c.args.rule.now) e c.make_ready.new.state c.run_levels-named.new.state c.make_ready.ensures.kept c.make_ready.ensures.levels c.run_levels-named.ensures.ran.kept in
-    let short = short_run e c.requires.bounds in
+    let same = tick_same (g.C.Choosing.chosen c.args.rule.now) e c.make_ready.new.state c.run_levels-named.new.state c.make_ready.ensures.kept c.make_ready.ensures.levels c.run_levels-named.ensures.kept in
+    let short = short_run e in
     search rules
 
 pub returns : goal.returns
@@ -19,22 +20,17 @@ returns g c =
     let m = c.make_ready.new.state in
     let x = c.run_levels-named.new.state in
     let ready = c.make_ready.ensures in
-    let ran = c.run_levels-named.ensures.ran in
-    let b = ran.bounds in
-    let numbers = numbers_of c.run_levels-named.result in
-    let tick = tick_same rule e m x ready.kept ready.levels ran.kept in
-    let ends = end_same rule e m x ready.kept ready.levels ran.kept in
+    let ran = c.run_levels-named.ensures in
+    let numbers = c.run_levels-named.result.items in
     let count = ap (λ s. s.count) ready.kept in
+    let on = c.advance.ensures in
     record {
-      gone = record {
-        goes = view_is rule e m x ready.kept ready.levels ran.kept ran.tasks ran.levels;
-        stays = machine_is rule e m x ready.kept ready.levels ran.kept;
-        each = each_ticked rule e m x ready.kept ready.levels ran.kept ran.each;
-        listed = listed_runs rule e m x ready.kept ready.levels ran.kept numbers ran.listed;
-        exactly = subst (λ f. Names f numbers) (runs_are rule e m x ready.kept ready.levels ran.kept) ran.exactly;
-        below = subst (λ n. AllByRecursion (λ i. i < n) numbers) count ran.below;
-        kept = kept_is rule e m x ready.kept ready.levels ran.kept;
-        bounds = (b.0, b.1, b.2, b.3, b.4, b.5, b.6, b.7, b.8, omega (arith, tick, ends, c.requires.lasts), b.10);
-      };
-      few = omega (arith, count, c.run_levels-named.ensures.few);
+      goes = ap view on ∙ view_is rule e m x ready.kept ready.levels ran.kept ran.tasks ran.levels;
+      stays = ap machine on ∙ machine_is rule e m x ready.kept ready.levels ran.kept;
+      each = λ i. ap (λ s. task_at s i) on ∙ each_ticked rule e m x ready.kept ready.levels ran.kept ran.each i;
+      listed = listed_runs rule e m x ready.kept ready.levels ran.kept numbers ran.listed;
+      exactly = subst (λ f. Names f numbers) (runs_are rule e m x ready.kept ready.levels ran.kept) ran.exactly;
+      below = subst (λ n. AllByRecursion (λ i. i < n) numbers) count ran.below;
+      kept = on ∙ kept_is rule e m x ready.kept ready.levels ran.kept ∙ sym (λ t. with_all e (suc e.tick) (ap (λ s. s.tasks) on t) (ap (λ s. s.levels) on t));
+      table = ap (λ s. length s.tasks) on ∙ ran.table;
     }

@@ -1,8 +1,5 @@
 use Rattle.choosing.specs.Lawfulness.{earliest_deadline_names}
 use Rattle.choosing.proofs.rules.EarliestDeadlineChoosing.choose.Goals as goal
 
-pub returns : goal.returns
-returns c = record {
-  answer = c.preferred.ensures;
-  meaning = simp c.preferred.ensures (earliest_deadline_names c.args.server c.args.clients.now);
-}
+pub returns-clause-meaning : goal.returns-clause-meaning
+returns-clause-meaning c = simp c.preferred.ensures (earliest_deadline_names c.args.server c.args.clients.now)

@@ -1,15 +1,44 @@
-use Rattle.std.proofs.Common.{sym, arith}
-use Rattle.packing.specs.Packing.{packing_of}
-use Rattle.packing.proofs.Fronts.{length_settled}
-use Rattle.packing.proofs.Tabled.{level_tabled}
+use Rattle.std.proofs.Common.{◌≡◌, ◌++◌, ◌∷◌, [], length, get_or, ap, sym, ◌∙◌, subst, inr, arith}
+use Rattle.packing.specs.Steps.{Placed}
+use Rattle.packing.specs.Tables.{packing_in}
+use Rattle.packing.proofs.Fronts.{homes_count, packed_skip, packed_more, packed_full}
 use Rattle.packing.proofs.level.Level.pack.Goals as goal
+use Rattle.packing.proofs.level.Level.pack.Goals.{then-rate-eq0, else-rate-eq0+in_ok-place}
 
-pub returns : goal.returns
-returns g c =
+pub returns-in_err-place : goal.returns-in_err-place
+returns-in_err-place g c =
+    let full = c.in_err-place.ensures in
+    simp c.from_residual.ensures
+    (inr (packed_full (g.F.Fitting.fits c.args.rule.now) c.args.unit c.args.items.now c.loop-rate.rate-index (packing_in c.loop-rate.level)
+    c.loop-rate-test.true c.loop-rate.invariant.packed (omega arith) full.0 full.1))
+
+pub push-requires : goal.push-requires
+push-requires g c =
+    let p = packing_in c.loop-rate.level in
+    let count : length p.homes ≡ c.loop-rate.rate-index =
+    homes_count (g.F.Fitting.fits c.args.rule.now) c.args.unit c.args.items.now c.loop-rate.rate-index p c.loop-rate-test.true c.loop-rate.invariant.packed in
+    elim c.if-rate-eq0.branch [
+      | then-rate-eq0 w ↦ (omega arith, omega (arith, ap (λ l. length l.homes.items) w.level-is))
+      | else-rate-eq0+in_ok-place w ↦ (omega arith, omega (arith, ap (λ l. length l.homes.items) w.level-is))
+    ]
+
+pub loop-rate-preserved : goal.loop-rate-preserved
+loop-rate-preserved g c =
     let rule = g.F.Fitting.fits c.args.rule.now in
-    let packed = c.in_ok-servers.ensures in
-    let p = packing_of rule c.args.unit c.args.items.now in (
-      omega arith,
-      omega (arith, packed.servers, packed.room),
-      level_tabled p _ _ _ _ (sym (length_settled rule c.args.unit _ c.args.items.now)) packed,
-    )
+    let p = packing_in c.loop-rate.level in
+    let rate = get_or c.args.items.now c.loop-rate.rate-index 0 in
+    elim c.if-rate-eq0.branch [
+      | then-rate-eq0 w ↦ record {
+        packed =
+            packed_skip rule c.args.unit c.args.items.now c.loop-rate.rate-index p c.loop-rate-test.true c.loop-rate.invariant.packed w.if-rate-eq0.true _ (cc) (cc);
+        few = omega (arith, ap (λ l. length l.rates.items) w.level-is, c.loop-rate.invariant.few);
+      }
+      | else-rate-eq0+in_ok-place w ↦ record {
+        packed =
+            packed_more rule c.args.unit c.args.items.now c.loop-rate.rate-index p c.loop-rate-test.true c.loop-rate.invariant.packed w.if-rate-eq0.false
+            w.in_ok-place.field-0 _
+            (subst (Placed (rule p.rates c.args.unit rate) p.rates rate w.in_ok-place.field-0) (sym (ap (λ l. l.rates.items) w.level-is)) w.in_ok-place.ensures)
+            (c.push.ensures.items ∙ ap (λ l. l.homes.items ++ c.if-rate-eq0.home ∷ []) w.level-is ∙ ap (λ h. p.homes ++ h ∷ []) w.home-is);
+        few = let placed = w.in_ok-place.ensures in omega (arith, ap (λ l. length l.rates.items) w.level-is, placed.few);
+      }
+    ]

@@ -1,7 +1,23 @@
-use Rattle.ledger.specs.Calls.{deadline_of}
+use Rattle.std.proofs.Common.{Ok, ap, ◌∙◌, rules}
+use Rattle.ledger.specs.Calls.{deadline_of, number}
+use Rattle.levels.specs.Running.{task}
 use Rattle.run.specs.Runs.{number_told}
+use Rattle.run.specs.Views.{view}
+use Rattle.run.proofs.Reading.{number_read, share_read}
 use Rattle.run.proofs.Steps.{asked_follows}
 use Rattle.run.proofs.run.Run.deadline.Goals as goal
 
+pub returns-in_err-sheet_task : goal.returns-in_err-sheet_task
+returns-in_err-sheet_task g c =
+    let s = c.args.self.now.state in
+    let i = c.args.task in
+    asked_follows (g.C.Choosing.chosen c.args.self.now.rule) s (deadline_of i) (number_told c.from_residual.result)
+    (number_read s i (task (view s) i).deadline c.from_residual.result (search rules))
+
 pub returns : goal.returns
-returns g c = asked_follows (g.C.Choosing.chosen c.args.self.now.rule) c.args.self.now.state (deadline_of c.args.task) (number_told c.deadline_of.result) c.deadline_of.ensures
+returns g c =
+    let s = c.args.self.now.state in
+    let i = c.args.task in
+    let told = c.in_ok-sheet_task.ensures in
+    asked_follows (g.C.Choosing.chosen c.args.self.now.rule) s (deadline_of i) (number c.in_ok-sheet_task.field-0.now.share.deadline)
+    (number_read s i (task (view s) i).deadline (Ok c.in_ok-sheet_task.field-0.now.share.deadline) (told.0, ap (λ t. t.share.deadline) told.1 ∙ ap (λ x. x.deadline) (share_read s i told.0)))

@@ -1,30 +1,24 @@
-use Rattle.std.proofs.Common.{length, refl}
+use Rattle.std.proofs.Common.{length, refl, rules}
 use Rattle.ledger.specs.Calls.{tick}
-use Rattle.run.specs.Refusals.{told}
-use Rattle.run.proofs.Keeps.{kept_in}
 use Rattle.run.proofs.Ruling.{tick_law}
-use Rattle.run.proofs.Steps.{refused_follows}
+use Rattle.run.proofs.Steps.{check_law}
 use Rattle.run.proofs.run.Run.tick.Goals as goal
 
 pub carry_out-requires : goal.carry_out-requires
-carry_out-requires g c = record { kept = kept_in c.args.self.now; granted = c.in_default.ensures }
+carry_out-requires g c = record { kept = c.args.self.now.kept; granted = c.in_ok-check_tick.ensures }
 
 pub invariant_of-self : goal.invariant_of-self
-invariant_of-self g c =
-    let k = c.carry_out.ensures.kept in
-    record { tables = k.tables; levels = k.levels; numbers = k.numbers; phased = k.phased; within = k.within; jobs = k.jobs; preemptions = k.preemptions; unfinished = k.unfinished; recorded = k.recorded }
+invariant_of-self g c = record { kept = c.carry_out.ensures.kept }
 
-pub returns-in-Some : goal.returns-in-Some
-returns-in-Some g c = record {
-  rule = refl;
-  ticked = (c.in-Some.ensures, refl, refl);
-  law = (refused_follows (g.C.Choosing.chosen c.args.self.now.rule) c.args.self.now.state (tick (length c.args.list.now)) (told c.in-Some.refusal) c.in-Some.ensures).law;
-}
+pub returns-in_err-check_tick-clause-law : goal.returns-in_err-check_tick-clause-law
+returns-in_err-check_tick-clause-law g c =
+    let s = c.args.self.now.state in
+    check_law (g.C.Choosing.chosen c.args.self.now.rule) s (tick (length c.args.list.now)) s.cores c.args.list.now c.from_residual.result (search rules) (search rules)
 
 pub returns : goal.returns
 returns g c = record {
   rule = refl;
   ticked = c.carry_out.ensures.ticked;
-  law = tick_law (g.C.Choosing.chosen c.args.self.now.rule) c.args.self.now.state (kept_in c.args.self.now) c.args.list.now c.carry_out.new.list c.carry_out.new.state
+  law = tick_law (g.C.Choosing.chosen c.args.self.now.rule) c.args.self.now.state c.args.self.now.kept c.args.list.now c.carry_out.new.list c.carry_out.new.state
       c.carry_out.ensures.ticked;
 }

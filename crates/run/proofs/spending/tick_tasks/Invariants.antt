@@ -1,7 +1,0 @@
-use Rattle.run.specs.Turns.{tick_if}
-use Rattle.run.specs.Views.{flags, blank_task}
-use Rattle.run.proofs.Tables.{Changed}
-use Rattle.run.proofs.spending.tick_tasks.Given as goal
-
-abbrev pub invariant-loop-i : goal.invariant-loop-i
-invariant-loop-i l = Changed blank_task (λ q. tick_if (flags l.named q)) l.initial.tasks l.tasks l.i

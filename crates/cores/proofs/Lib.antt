@@ -5,3 +5,4 @@ pub mod Seats
 pub mod Steps
 pub mod Lawfulness
 pub mod Listing
+pub mod Lookups

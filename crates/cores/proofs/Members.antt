@@ -1,8 +1,7 @@
 -- Lists of tasks: who is named, how many pass a test, and what a fold keeps. Assumes nothing.
-use Rattle.std.proofs.Common.{◌≡◌, ℕ, zero, suc, ◌+◌, ◌<◌, ◌≤◌, Bool, true, false, eqb, ◌⊎◌, List, [], ◌∷◌, ◌++◌, length, get_or, fold, sym, refl, ap, ap₂, ◌∙◌, ◌||◌, inl, inr, arith}
+use Rattle.std.proofs.Common.{◌≡◌, ℕ, zero, suc, ◌+◌, ◌<◌, ◌≤◌, Bool, true, false, eqb, ◌⊎◌, List, [], ◌∷◌, ◌++◌, length, take, drop, get_or, fold, sym, refl, ap, ap₂, ◌∙◌, ◌||◌, inl, inr, arith}
 use Rattle.std.proofs.lemmas.Bool.{false≢true, both_ways, cases_Bool, cases_eq, eq-eqb, eqb-true, or_cases, or_left, or_right, or_parts}
-use Rattle.std.proofs.lemmas.Bool.Decides.{nat_tests}
-use Rattle.std.specs.List.{AllByRecursion, list_any}
+use Rattle.std.specs.List.{AllByRecursion}
 use Rattle.cores.specs.Naming.{member, Different}
 
 -- ---- who is named
@@ -38,12 +37,26 @@ member_at (u ∷ ts) t m = elim (member_cases t u ts m) [
   | inr later ↦ let at = member_at ts t later in (suc at.0, omega (arith, at.1), at.2)
 ]
 
--- as the library's search of a list finds it
-pub any_is_member : (t : ℕ) (ts : List ℕ) → list_any (λ u. eqb u t) ts ≡ member t ts
-any_is_member t [] = refl
-any_is_member t (u ∷ us) =
-    let same : eqb u t ≡ eqb t u = grind (arith, nat_tests) in
-    ap₂ ◌||◌ same (any_is_member t us)
+-- in a part of a list
+pub member_drop : (n : ℕ) (ts : List ℕ) (t : ℕ) → member t (drop n ts) ≡ true → member t ts ≡ true
+member_drop zero ts t m = m
+member_drop (suc n) [] t m = m
+member_drop (suc n) (u ∷ ts) t m = member_there t u ts (member_drop n ts t m)
+
+pub member_take : (n : ℕ) (ts : List ℕ) (t : ℕ) → member t (take n ts) ≡ true → member t ts ≡ true
+member_take zero ts t m = absurd (false≢true m)
+member_take (suc n) [] t m = m
+member_take (suc n) (u ∷ ts) t m = elim (member_cases t u (take n ts) m) [
+  | inl e ↦ ap (λ k. member k (u ∷ ts)) e ∙ member_here u ts
+  | inr later ↦ member_there t u ts (member_take n ts t later)
+]
+
+pub in_no_part : (n : ℕ) (ts : List ℕ) (t : ℕ) → member t (drop n ts) ≡ false → member t (take n ts) ≡ false → member t ts ≡ false
+in_no_part zero ts t behind before = behind
+in_no_part (suc n) [] t behind before = refl
+in_no_part (suc n) (u ∷ ts) t behind before =
+    let parts = or_parts (eqb t u) (member t (take n ts)) before in
+    ap₂ ◌||◌ parts.0 (in_no_part n ts t behind parts.1)
 
 pub different_at : (ts : List ℕ) → ((c d : ℕ) → c < length ts → d < length ts → get_or ts c 0 ≡ get_or ts d 0 → c ≡ d) → Different ts
 different_at [] apart = tt

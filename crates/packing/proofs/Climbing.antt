@@ -14,9 +14,9 @@ pub record Climbed (levels : List Packing) (task k : ℕ) (path : List (Option �
   pub written : path ≡ over (map Some way) (replicate 5 None)
   pub rest : climb levels task ≡ way ++ climb (drop k levels) item
 
--- a level of the table is that of its list of packings
-level_at : (table : List Level) (k : ℕ) (l : Level) → k < length table → l ≡ get_or table k l → packing_in l ≡ get_or (map packing_in table) k (packing_in l)
-level_at table k l below is = ap packing_in is ∙ sym (get_or-map packing_in table k l (packing_in l) below)
+-- past the last level
+abbrev pub no_level : Level
+no_level = record { homes = []; items = 0; rates = []; servers = 0 }
 
 module _ (table : List Level) (task k : ℕ) (path : List (Option ℕ)) (item : ℕ) (before : Climbed (map packing_in table) task k path item) where
   -- nothing follows
@@ -24,11 +24,12 @@ module _ (table : List Level) (task k : ℕ) (path : List (Option ℕ)) (item : 
   climbed_end none =
       before.written ∙ ap (λ way. over (map Some way) (replicate 5 None)) (sym (before.rest ∙ ap (λ ys. before.way ++ ys) none ∙ append-nil before.way))
 
-  module _ (l : Level) (below : k < length table) (is : l ≡ get_or table k l) (o : Option ℕ) (home : o ≡ get_or l.homes.items item None) where
+  module _ (below : k < length table) (o : Option ℕ) (home : o ≡ get_or (packing_in (get_or table k no_level)).homes item None) where
     here : climb (drop k (map packing_in table)) item ≡ onward o (climb (drop (k + 1) (map packing_in table)))
     here =
-        at_drop_more (λ ls. climb ls item) (map packing_in table) k (packing_in l) (simp length-map below)
-        ∙ ap (λ h. onward h (climb (drop (k + 1) (map packing_in table)))) (ap (λ p. get_or p.homes item None) (sym (level_at table k l below is)) ∙ sym home)
+        at_drop_more (λ ls. climb ls item) (map packing_in table) k (packing_in no_level) (simp length-map below)
+        ∙ ap (λ h. onward h (climb (drop (k + 1) (map packing_in table))))
+        (ap (λ p. get_or p.homes item None) (get_or-map packing_in table k no_level (packing_in no_level) below) ∙ sym home)
 
     pub climbed_root : o ≡ None → path ≡ over (map Some (climb (map packing_in table) task)) (replicate 5 None)
     climbed_root none = climbed_end (here ∙ ap (λ h. onward h (climb (drop (k + 1) (map packing_in table)))) none)

@@ -6,5 +6,6 @@ pub mod Plans
 pub mod Idle
 pub mod Climbing
 pub mod Least
+pub mod Tabled
 pub mod Reached
 pub mod Planned

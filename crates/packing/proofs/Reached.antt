@@ -7,8 +7,9 @@ use Rattle.packing.specs.Fitting.{Rule}
 use Rattle.packing.specs.Made.{PackedLevel}
 use Rattle.packing.specs.Packing.{Packing, packing_of, servers_of}
 use Rattle.packing.specs.Plan.{duals, OnlyRoots, IsPlan, Sized, OneSmallPlan}
-use Rattle.packing.specs.Tables.{packing_in}
+use Rattle.packing.specs.Tables.{level_table, packing_in}
 use Rattle.packing.proofs.Plans.{sized_length}
+use Rattle.packing.proofs.Tabled.{packing_back}
 
 -- what is left of a plan begins with the packing of these items
 module _ (rule : Rule) (unit : ℕ) (items : List ℕ) where
@@ -40,79 +41,91 @@ module _ (rule : Rule) (unit : ℕ) (items : List ℕ) where
   small_level most [] (d ∷ done) rest p all s = absurd s
   small_level most (n ∷ bounds) (d ∷ done) rest p all s = small_level most bounds done rest p all.1 s.1
 
--- `all` is the plan of the tasks: these levels are its first, and the rest is the plan of the items at hand
-pub record Reached (rule : Rule) (unit : ℕ) (tasks : List ℕ) (done : List Level) (items : List ℕ) : Type 0 where
+-- `all` is the plan of the tasks: its first levels are at hand in their tables, and the rest is the plan of the items at hand
+pub record Reached (rule : Rule) (unit : ℕ) (tasks : List ℕ) (tables : List Level) (items : List ℕ) : Type 0 where
   pub all : List Packing
   pub whole : IsPlan rule unit tasks all
   pub sized : Sized (31 ∷ 16 ∷ 8 ∷ 4 ∷ 2 ∷ []) all
+  pub done : List Packing
   pub rest : List Packing
-  pub split : all ≡ map packing_in done ++ rest
+  pub split : all ≡ done ++ rest
   pub is_plan : IsPlan rule unit items rest
+  pub written : tables ≡ map level_table done
 
 -- the same, where the level of these items is at hand
-pub record ReachedLevel (rule : Rule) (unit : ℕ) (tasks : List ℕ) (done : List Level) (level : Level) : Type 0 where
+pub record ReachedLevel (rule : Rule) (unit : ℕ) (tasks : List ℕ) (tables : List Level) (level : Level) : Type 0 where
   pub items : List ℕ
-  pub packed : packing_in level ≡ packing_of rule unit items
-  pub reached : Reached rule unit tasks done items
+  pub packed : level ≡ level_table (packing_of rule unit items)
+  pub reached : Reached rule unit tasks tables items
 
 pub reached_none : (rule : Rule) (unit cores : ℕ) (tasks : List ℕ) → OneSmallPlan rule unit cores tasks → Reached rule unit tasks [] tasks
 reached_none rule unit cores tasks one = record {
   all = one.levels;
   whole = one.is_plan;
   sized = one.sized;
+  done = [];
   rest = one.levels;
   split = refl;
   is_plan = one.is_plan;
+  written = refl;
 }
 
 -- there is room for the servers of the next level
-pub few_servers : (rule : Rule) (unit : ℕ) (tasks : List ℕ) (done : List Level) (items : List ℕ) → Reached rule unit tasks done items
+pub few_servers : (rule : Rule) (unit : ℕ) (tasks : List ℕ) (tables : List Level) (items : List ℕ) → Reached rule unit tasks tables items
     → length (servers_of rule unit items) ≤ 31
-few_servers rule unit tasks done items before =
-    small_level rule unit items 31 (31 ∷ 16 ∷ 8 ∷ 4 ∷ 2 ∷ []) (map packing_in done) before.rest before.is_plan (omega arith)
+few_servers rule unit tasks tables items before =
+    small_level rule unit items 31 (31 ∷ 16 ∷ 8 ∷ 4 ∷ 2 ∷ []) before.done before.rest before.is_plan (omega arith)
     (subst (Sized (31 ∷ 16 ∷ 8 ∷ 4 ∷ 2 ∷ [])) before.split before.sized)
 
-module _ (rule : Rule) (unit : ℕ) (tasks : List ℕ) (done : List Level) (level : Level) (before : ReachedLevel rule unit tasks done level) where
+module _ (rule : Rule) (unit : ℕ) (tasks : List ℕ) (tables : List Level) (level : Level) (before : ReachedLevel rule unit tasks tables level) where
   -- there is room for this level
-  pub few_levels : length done < 5
+  pub few_levels : length tables < 5
   few_levels =
       omega (
         arith,
         some_level rule unit before.items before.reached.rest before.reached.is_plan,
         ap length before.reached.split,
-        length-append (map packing_in done) before.reached.rest,
-        length-map done packing_in,
+        length-append before.reached.done before.reached.rest,
+        length-map before.reached.done level_table,
+        ap length before.reached.written,
         sized_length (31 ∷ 16 ∷ 8 ∷ 4 ∷ 2 ∷ []) before.reached.all before.reached.sized,
       )
 
-  rates_are : servers_of rule unit before.items ≡ level.rates.items
-  rates_are = ap (λ p. p.rates) (sym before.packed)
+  rates_are : servers_of rule unit before.items ≡ (packing_in level).rates
+  rates_are = ap (λ p. p.rates) (sym (ap packing_in before.packed ∙ packing_back (packing_of rule unit before.items)))
+
+  -- its table behind the others
+  one_more : tables ++ level ∷ [] ≡ map level_table (before.reached.done ++ packing_of rule unit before.items ∷ [])
+  one_more =
+      ap (λ ls. ls ++ level ∷ []) before.reached.written
+      ∙ ap (λ l. map level_table before.reached.done ++ l ∷ []) before.packed
+      ∙ sym (map_push level_table before.reached.done (packing_of rule unit before.items))
 
   -- it is the last
-  pub reached_all : OnlyRoots unit level.rates.items → IsPlan rule unit tasks (map packing_in (done ++ level ∷ []))
+  pub reached_all : OnlyRoots unit (packing_in level).rates → (levels : List Packing) × IsPlan rule unit tasks levels × (tables ++ level ∷ [] ≡ map level_table levels)
   reached_all roots =
-      let last = last_level rule unit before.items before.reached.rest before.reached.is_plan (subst (OnlyRoots unit) (sym rates_are) roots) in
-      subst (IsPlan rule unit tasks)
-      (before.reached.split
-      ∙ ap (λ ls. map packing_in done ++ ls) (last ∙ ap (λ p. p ∷ []) (sym before.packed))
-      ∙ sym (map_push packing_in done level))
-      before.reached.whole
+      let last = last_level rule unit before.items before.reached.rest before.reached.is_plan (subst (OnlyRoots unit) (sym rates_are) roots) in (
+        before.reached.done ++ packing_of rule unit before.items ∷ [],
+        subst (IsPlan rule unit tasks) (before.reached.split ∙ ap (λ ls. before.reached.done ++ ls) last) before.reached.whole,
+        one_more,
+      )
 
   -- another follows
-  pub reached_more : (OnlyRoots unit level.rates.items → ⊥) → Reached rule unit tasks (done ++ level ∷ []) (duals unit level.rates.items)
+  pub reached_more : (OnlyRoots unit (packing_in level).rates → ⊥) → Reached rule unit tasks (tables ++ level ∷ []) (duals unit (packing_in level).rates)
   reached_more other =
       let next = next_level rule unit before.items before.reached.rest before.reached.is_plan (λ roots. other (subst (OnlyRoots unit) rates_are roots)) in
       record {
         all = before.reached.all;
         whole = before.reached.whole;
         sized = before.reached.sized;
+        done = before.reached.done ++ packing_of rule unit before.items ∷ [];
         rest = next.0;
         split =
             before.reached.split
-            ∙ ap (λ ls. map packing_in done ++ ls) (next.1 ∙ ap (λ p. p ∷ next.0) (sym before.packed))
-            ∙ sym (append_assoc (map packing_in done) (packing_in level ∷ []) next.0)
-            ∙ ap (λ ls. ls ++ next.0) (sym (map_push packing_in done level));
+            ∙ ap (λ ls. before.reached.done ++ ls) next.1
+            ∙ sym (append_assoc before.reached.done (packing_of rule unit before.items ∷ []) next.0);
         is_plan = subst (λ xs. IsPlan rule unit (duals unit xs) next.0) rates_are next.2;
+        written = one_more;
       }
 
 -- ---- the level that `pack` gives, where the slice has these items
@@ -125,5 +138,5 @@ module _ (rule : Rule) (unit : ℕ) (items slice : List ℕ) (same : slice ≡ i
       some None many = absurd (⊎_elim (λ items. omega arith) (λ servers. omega arith) many)
       some (Some l) packed = refl
 
-  pub packed_is : (l : Level) → o ≡ Some l → packing_in l ≡ packing_of rule unit items
-  packed_is l is = ap packing_in (subst (PackedLevel rule unit slice) is answer).2 ∙ ap (packing_of rule unit) same
+  pub packed_is : (l : Level) → o ≡ Some l → l ≡ level_table (packing_of rule unit items)
+  packed_is l is = (subst (PackedLevel rule unit slice) is answer).2 ∙ ap (λ xs. level_table (packing_of rule unit xs)) same

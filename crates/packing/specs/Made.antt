@@ -9,19 +9,19 @@ use Rattle.packing.specs.Plan.{all_tasks, OneSmallPlan}
 use Rattle.packing.specs.Refusals.{First, Allowed}
 use Rattle.packing.specs.Tables.{level_table, plan_table, levels_in}
 
--- One level is packed: none, and the items or their servers are more than there is room for; or their packing.
+-- One level is packed: none, and the items or their servers are too many for the tables; or the table of their packing.
 abbrev pub PackedLevel : Rule → ℕ → List ℕ → Option Level → Type 0
 PackedLevel rule unit items None = (80 < length items) ⊎ (31 < length (servers_of rule unit items))
 PackedLevel rule unit items (Some l) = (length items ≤ 80) × (length (servers_of rule unit items) ≤ 31) × (l ≡ level_table (packing_of rule unit items))
 
 -- A plan is made: refused by the row that counts, and the plan is as found; or the load is allowed, there is exactly one
--- plan of its tasks, and that is what is made.
+-- plan of its tasks, and that is in the tables.
 pub record Planned (rule : Rule) (cores unit : ℕ) (sheet : List ℕ) (new : Plan) : Type 0 where
   pub allowed : Allowed cores unit sheet
   pub plan : OneSmallPlan rule unit cores (all_tasks cores unit sheet)
   pub few_tasks : length (all_tasks cores unit sheet) ≤ 80
   pub tables : new ≡ plan_table unit (all_tasks cores unit sheet) plan.levels
-  -- it stands for just that plan
+  -- these tables stand for just that plan
   pub levels : levels_in new ≡ plan.levels
 
 abbrev pub Made : {Done : Type 0} → Rule → ℕ → ℕ → List ℕ → Plan → Plan → Result Done Refusal → Type 0

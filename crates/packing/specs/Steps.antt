@@ -4,7 +4,7 @@ use Rattle.std.specs.List.{AllByRecursion}
 use Rattle.packing.specs.Packing.{Within, grown, goes_to}
 use Rattle.packing.specs.Fitting.{Rule}
 use Rattle.packing.specs.Plan.{FullCores, IsPlan}
-use Rattle.packing.specs.Tables.{levels_in}
+use Rattle.packing.specs.Tables.{plan_table, levels_in}
 use Rattle.packing.specs.declared.plan.Plan.{Plan}
 
 -- One item was placed: its home j, and the parts used by each server before and after.
@@ -29,11 +29,10 @@ FirstOutside unit sheet (Some i) = (i < length sheet) × (Within unit (slice_ind
 abbrev pub FillsCores : ℕ → List ℕ → Type 0
 FillsCores unit items = (cores : ℕ) × FullCores unit cores items
 
--- A plan of these tasks.
+-- A plan of these tasks, in its tables.
 pub record Built (rule : Rule) (unit : ℕ) (tasks : List ℕ) (plan : Plan) : Type 0 where
-  pub unit_kept : plan.unit ≡ unit
-  pub tasks_kept : plan.rates.items ≡ tasks
   pub is_plan : IsPlan rule unit tasks (levels_in plan)
+  pub tables : plan ≡ plan_table unit tasks (levels_in plan)
 
 -- A load that no row of the table refuses.
 pub record Limits (cores unit : ℕ) (sheet : List ℕ) : Type 0 where

@@ -10,6 +10,7 @@ mod opening;
 mod plan;
 mod refusal;
 pub mod rules;
+mod table;
 
 pub use fitting::Fitting;
 pub use level::{Level, is_home};

@@ -1,5 +1,5 @@
 //! The plan of a load.
-ghost use Rattle.std.specs.Prelude.{◌≡◌, ◌-◌, [], map, length, replicate, Some, None};
+ghost use Rattle.std.specs.Prelude.{◌≡◌, ◌-◌, ◌≤◌, [], map, length, take, replicate, Some, None};
 ghost use Rattle.packing.specs.Made.{Made};
 ghost use Rattle.packing.specs.Plan.{climb};
 ghost use Rattle.packing.specs.Tables.{over, plan_table, levels_in};
@@ -10,17 +10,22 @@ use crate::level::Level;
 use crate::limits::{LEVELS, TASKS};
 use crate::load::Load;
 use crate::refusal::Refusal;
-use arrayvec::ArrayVec;
+use crate::table::front;
 
 /// The plan of a load: its tasks, and the levels of servers over them, the lowest first. The items of level 0 are the
-/// tasks, and item j of any other level is the dual of server j of the level below.
-#[derive(Clone, Drop)]
+/// tasks, and item j of any other level is the dual of server j of the level below. Behind its tasks and its levels the
+/// tables are blank.
+#[derive(Clone, Copy)]
 pub struct Plan {
     /// the parts in one whole core
     pub unit: u16,
     /// the rates of the tasks, the idle ones after those of the sheet
-    pub rates: ArrayVec<u16, TASKS>,
-    pub levels: ArrayVec<Level, LEVELS>,
+    pub rates: [u16; TASKS],
+    /// how many tasks there are
+    pub tasks: usize,
+    pub levels: [Level; LEVELS],
+    /// how many levels there are
+    pub depth: usize,
 }
 
 impl Plan {
@@ -30,8 +35,10 @@ impl Plan {
     {
         Plan {
             unit: 0,
-            rates: ArrayVec::new(),
-            levels: ArrayVec::new(),
+            rates: [0; TASKS],
+            tasks: 0,
+            levels: [Level::BLANK; LEVELS],
+            depth: 0,
         }
     }
 
@@ -48,14 +55,30 @@ impl Plan {
     pub fn copy(&self) -> Plan
         ensures { result ≡ self.now }
     {
-        self.clone().unwrap()
+        *self
+    }
+
+    /// The rates of its tasks.
+    pub fn task_rates(&self) -> &[u16]
+        ensures rates { result.now ≡ take self.now.tasks self.now.rates }
+        ensures few { length result.now ≤ 80 }
+    {
+        front(&self.rates, self.tasks)
+    }
+
+    /// Its levels, the lowest first.
+    pub fn packed_levels(&self) -> &[Level]
+        ensures levels { result.now ≡ take self.now.depth self.now.levels }
+        ensures few { length result.now ≤ 5 }
+    {
+        front(&self.levels, self.depth)
     }
 
     /// The reductions: the levels less one.
     pub fn reductions(&self) -> usize
-        ensures { result ≡ length self.now.levels.items - 1 }
+        ensures { result ≡ self.now.depth - 1 }
     {
-        self.levels.len().saturating_sub(1)
+        self.depth.saturating_sub(1)
     }
 
     /// The way of a task, level by level: the server that it was placed in, the server that this one's dual was placed in,
@@ -65,7 +88,7 @@ impl Plan {
     {
         let mut path = [None; LEVELS];
         let mut item = task;
-        for (k, level) in self.levels.iter().enumerate() {
+        for (k, level) in self.packed_levels().iter().enumerate() {
             let Some(home) = level.home(item) else {
                 return path;
             };

@@ -21,8 +21,8 @@ fn servers(cores: u32, unit: u32, rates: &[u16]) -> [usize; 5] {
     let mut plan = Plan::blank();
     let _ = plan.make(&FirstFit, &load(cores, unit, rates));
     let mut servers = [0; 5];
-    for (count, level) in servers.iter_mut().zip(plan.levels.iter()) {
-        *count = level.rates.len();
+    for (count, level) in servers.iter_mut().zip(plan.packed_levels().iter()) {
+        *count = level.server_rates().len();
     }
     servers
 }
@@ -60,12 +60,12 @@ fn servers_by_level(rt: HostRuntime) {
 fn idle_tasks_fill_the_cores(rt: HostRuntime) {
     let mut plan = Plan::blank();
     let _ = plan.make(&FirstFit, &load(2, 10, &[4]));
-    assert_eq!(rt; plan.rates.len(), 3);
-    assert_eq!(rt; plan.rates.get(1), Some(&10));
-    assert_eq!(rt; plan.rates.get(2), Some(&6));
+    assert_eq!(rt; plan.tasks, 3);
+    assert_eq!(rt; plan.task_rates().get(1), Some(&10));
+    assert_eq!(rt; plan.task_rates().get(2), Some(&6));
     assert_eq!(rt; plan.reductions(), 0);
     let _ = plan.make(&FirstFit, &load(16, 1000, &[1; 64]));
-    assert_eq!(rt; plan.rates.len(), 80);
+    assert_eq!(rt; plan.task_rates().len(), 80);
 }
 
 #[test]
@@ -90,7 +90,7 @@ fn a_refused_load_leaves_the_plan(rt: HostRuntime) {
         Err(Refusal::BadRate(1))
     );
     assert_eq!(rt; Refusal::BadRate(1).task(), Some(1));
-    assert_eq!(rt; plan.rates.len(), 3);
+    assert_eq!(rt; plan.tasks, 3);
     assert_eq!(rt; plan.path(2), [Some(2), Some(0), None, None, None]);
     assert_eq!(rt; plan.path(3), [None; 5]);
 }
@@ -102,11 +102,26 @@ fn a_plan_is_copied(rt: HostRuntime) {
     assert_eq!(rt; plan.copy().path(4), plan.path(4));
     assert_eq!(rt; plan.copy().reductions(), 3);
     assert_eq!(rt;
-        plan.levels
-            .get(0)
-            .map_or(0, |level| level.copy().rates.len()),
+        plan.packed_levels()
+            .first()
+            .map_or(0, |level| level.copy().server_rates().len()),
         11
     );
+}
+
+#[test]
+fn plans_and_levels_are_copied_by_name(rt: HostRuntime) {
+    let mut plan = Plan::blank();
+    let twin = plan;
+    let _ = plan.make(&FirstFit, &load(7, 11, &[7; 11]));
+    assert_eq!(rt; (twin.tasks, twin.depth), (0, 0));
+    assert_eq!(rt; (plan.tasks, plan.depth), (11, 4));
+    let level = plan.levels[1];
+    let same = level;
+    assert_eq!(rt; (level.items, level.servers), (11, 6));
+    assert_eq!(rt; same.home(10), level.home(10));
+    assert_eq!(rt; same.home(11), None);
+    assert_eq!(rt; same.item_homes().len(), 11);
 }
 
 /// The number of the refusal of an opening by first fit; 0 where its plan is made.

@@ -23,7 +23,7 @@ fn print_tasks(rt: &HostRuntime, load: &Load, names: &Numbered, plan: &Plan) -> 
     let cores = load.cores;
     let unit = load.unit;
     println!(rt; "load: {cores} cores, unit {unit}")?;
-    for (task, rate) in plan.rates.iter().enumerate() {
+    for (task, rate) in plan.task_rates().iter().enumerate() {
         let name = TaskText { names, task };
         println!(rt; "  {name}: rate {rate}")?;
     }
@@ -32,10 +32,10 @@ fn print_tasks(rt: &HostRuntime, load: &Load, names: &Numbered, plan: &Plan) -> 
 
 /// Prints one server on the way of a task, and the rate of its dual.
 fn print_step(rt: &HostRuntime, plan: &Plan, depth: usize, server: u8) -> io::Result<()> {
-    let Some(level) = plan.levels.get(depth) else {
+    let Some(level) = plan.packed_levels().get(depth) else {
         return Ok(());
     };
-    let Some(rate) = level.rates.get(usize::from(server)) else {
+    let Some(rate) = level.server_rates().get(usize::from(server)) else {
         return Ok(());
     };
     let rest = plan.unit.saturating_sub(*rate);
@@ -49,7 +49,7 @@ fn print_step(rt: &HostRuntime, plan: &Plan, depth: usize, server: u8) -> io::Re
 
 /// Prints the way of a task: its server, the server of that one's dual, and so on to a root.
 fn print_path(rt: &HostRuntime, plan: &Plan, task: usize) -> io::Result<()> {
-    if let Some(rate) = plan.rates.get(task) {
+    if let Some(rate) = plan.task_rates().get(task) {
         println!(rt; "the way of task {task}, rate {rate}")?;
     }
     for (depth, server) in plan.path(task).iter().flatten().enumerate() {
@@ -64,7 +64,7 @@ fn print_plan(rt: &HostRuntime, load: &Load, plan: &Plan, task: usize) -> io::Re
         own: load.rates.len(),
     };
     print_tasks(rt, load, &names, plan)?;
-    for (depth, level) in plan.levels.iter().enumerate() {
+    for (depth, level) in plan.packed_levels().iter().enumerate() {
         let text = LevelText {
             names: &names,
             unit: plan.unit,

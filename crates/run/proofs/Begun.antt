@@ -168,4 +168,6 @@ module _ (s : State) (i d : ℕ) (kept : Kept s) (may : MayBegin s i d) where
     preemptions = kept.preemptions;
     unfinished = kept.unfinished;
     recorded = kept.recorded;
+    few_levels = kept.few_levels;
+    few_servers = kept.few_servers;
   }

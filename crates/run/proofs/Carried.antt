@@ -36,6 +36,7 @@ use Rattle.run.specs.Views.{item_of, tasks_of, levels_of, view, machine, task_at
 use Rattle.run.proofs.Begun.{not_marked}
 use Rattle.run.proofs.Distinct.{distinct_from, distinct_to, same_by}
 use Rattle.run.proofs.Reading.{item_is_task, awaited_read}
+use Rattle.run.proofs.Sizes.{level_count, server_count, sizes, sizes_stepped}
 
 -- ---- a granted tick
 
@@ -180,6 +181,9 @@ module _ (s : State) (kept : Kept s) (width : ℕ) (granted : None ≡ refusal (
         pub recorded_of : Recorded s.placing
         recorded_of t c on = task_of (get_or s.placing.last t None) c (kept.recorded t c (is_task_of (get_or s.placing.held c None) t on))
 
+        sizes_now : sizes (levels_of s1) ≡ sizes (levels_of s)
+        sizes_now = ap (λ st. sizes st.levels) w.goes ∙ sizes_stepped (always choose) (machine s) (view s)
+
         pub kept_ticked : Phased s4 → Recorded p3 → Kept s4
         kept_ticked phased recorded = subst Kept (sym whole) (record {
           table = long;
@@ -192,6 +196,8 @@ module _ (s : State) (kept : Kept s) (width : ℕ) (granted : None ≡ refusal (
               (subst Different (sym left_over) (different_kept (has_left s1.tasks) nm w.exactly.0))
               (subst (AllByRecursion (λ i. i < s.count)) (sym left_over) (all_kept_by (has_left s1.tasks) (λ i. i < s.count) nm w.below));
           recorded = λ t c on. is_task_of (get_or p3.last t None) c (recorded t c (task_of (get_or p3.held c None) t on));
+          few_levels = omega (arith, kept.few_levels, level_count s _ refl, level_count s1 _ sizes_now);
+          few_servers = λ k. omega (arith, kept.few_servers k, server_count s _ refl k, server_count s1 _ sizes_now k);
         })
 
         -- ---- the cores

@@ -1,5 +1,5 @@
 -- The plan that is made of an allowed load fits the tables of a run. Assumes nothing.
-use Rattle.std.proofs.Common.{◌≡◌, ℕ, ◌-◌, ◌≤◌, List, length, get_or, drop, ap, ◌∙◌, inl, inr, arith}
+use Rattle.std.proofs.Common.{◌≡◌, ℕ, ◌-◌, ◌≤◌, List, length, get_or, drop, replicate, ap, ◌∙◌, inl, inr, arith}
 use lib.Seq.{drop-append_seam}
 use Rattle.std.specs.List.{AllByRecursion}
 use Rattle.std.proofs.ByRecursion.{All-get_or}
@@ -15,6 +15,7 @@ use Rattle.packing.specs.Openings.{OpeningAllowed}
 use Rattle.packing.specs.Steps.{Limits}
 use Rattle.packing.specs.Tables.{levels_in}
 use Rattle.packing.proofs.Idle.{full_tasks, limits}
+use Rattle.packing.proofs.Over.{take_over}
 use Rattle.levels.specs.Opening.{opening}
 use Rattle.levels.specs.Running.{Machine}
 use Rattle.run.specs.declared.state.State.{State}
@@ -36,13 +37,13 @@ module _ (rule : Rule) (cores unit frames : ℕ) (sheet : List ℕ) (p : Plan) (
   few_frames = elim (cases_lt 65535 frames) [ inl many ↦ absurd (allowed BadFrames (inr many)) | inr few ↦ few ]
 
   rates_are : rates_in p ≡ tasks
-  rates_are = ap rates_in planned.tables
+  rates_are = ap rates_in planned.tables ∙ take_over tasks (replicate 80 0)
 
   pub fits_tables : Fits p cores frames (length sheet)
   fits_tables =
       let load : Limits cores unit sheet = limits cores unit sheet (λ f applies. allowed (Load f) applies) in
       let within : AllByRecursion (Within unit) tasks = (full_tasks cores unit sheet load).within in
-      let count : length p.rates.items ≡ length tasks = ap length rates_are in
+      let count : length (rates_in p) ≡ length tasks = ap length rates_are in
       let same : p.unit ≡ unit = ap (λ q. q.unit) planned.tables in
       record {
         sheet_tasks = omega (arith, count, length-append sheet (idle unit (spare cores unit sheet)));
@@ -58,8 +59,8 @@ module _ (rule : Rule) (cores unit frames : ℕ) (sheet : List ℕ) (p : Plan) (
   pub opens : (s : State) → Filled p cores frames (length sheet) s → Opens rule cores unit frames sheet s
   opens s filled =
       let rest : List ℕ = idle unit (spare cores unit sheet) in
-      let count : length p.rates.items ≡ length tasks = ap length rates_are in
-      let idle_jobs : length p.rates.items - length sheet ≡ length rest = omega (arith, count, length-append sheet rest) in
+      let count : length (rates_in p) ≡ length tasks = ap length rates_are in
+      let idle_jobs : length (rates_in p) - length sheet ≡ length rest = omega (arith, count, length-append sheet rest) in
       record {
         allowed = allowed;
         plan = planned.plan;

@@ -1,9 +1,11 @@
 -- The tables of an opened run, read as the run that the laws speak of. Assumes nothing.
-use Rattle.std.proofs.Common.{◌≡◌, ℕ, suc, ◌+◌, Bool, true, false, List, [], ◌∷◌, length, get_or, replicate, None, sym, ap, ◌∙◌, subst, arith}
+use Rattle.std.proofs.Common.{◌≡◌, ℕ, suc, ◌+◌, ◌≤◌, Bool, true, false, List, [], ◌∷◌, length, get_or, replicate, None, sym, ap, ◌∙◌, subst, arith}
+use Rattle.std.specs.List.{AllByRecursion}
 use Rattle.packing.specs.Fitting.{Rule, Lawful}
+use Rattle.packing.specs.Plan.{all_tasks, idle, spare}
 use Rattle.choosing.specs.Choosing.{Rule as Choosing, Lawful as LawfulChoosing}
 use Rattle.levels.specs.Running.{State, announce}
-use Rattle.levels.specs.Opening.{opening}
+use Rattle.levels.specs.Opening.{opening, servers_in}
 use Rattle.cores.specs.Naming.{member}
 use Rattle.cores.specs.Placing.{blank, is_task}
 use Rattle.ledger.specs.Openings.{Opening, Granted, idle_rates, opening_of, rates}
@@ -15,6 +17,9 @@ use Rattle.run.specs.declared.state.State.{State as Tables}
 use Rattle.run.specs.Keeping.{Phased, DeadlinesWithin, FewJobs, Kept, distinct_below}
 use Rattle.run.specs.Opened.{begin_idle, Opens, NeverOpened}
 use Rattle.run.specs.Runs.{run_of, setting_of, OpenedRun, BlankRun}
+use Rattle.run.specs.Turns.{servers_at}
+use Rattle.run.specs.Views.{levels_of}
+use Rattle.run.proofs.Sizes.{few_planned, level_count, levels_begun, server_count, sizes, small_planned}
 use Rattle.run.proofs.Tables.{get_or_blank}
 
 -- idle tasks begin their jobs: the state and the count of jobs apart
@@ -46,8 +51,9 @@ is_opened fit cores unit frames sheet s choose opens =
 none_on : (n c t : ℕ) → is_task (get_or (replicate n None) c None) t ≡ false
 none_on n c t = ap (λ x. is_task x t) (get_or_blank None n c)
 
-pub kept_unticked : (s : Tables) → length s.tasks ≡ 80 → s.tick ≡ 0 → Phased s → DeadlinesWithin s → FewJobs s → s.preemptions ≡ 0 → s.placing ≡ blank → s.unfinished.items ≡ [] → Kept s
-kept_unticked s table starts phased within jobs unpreempted unplaced none = record {
+pub kept_unticked : (s : Tables) → length s.tasks ≡ 80 → s.tick ≡ 0 → Phased s → DeadlinesWithin s → FewJobs s → s.preemptions ≡ 0 → s.placing ≡ blank → s.unfinished.items ≡ []
+    → length s.levels.items ≤ 5 → ((k : ℕ) → length (servers_at s k) ≤ 31) → Kept s
+kept_unticked s table starts phased within jobs unpreempted unplaced none few_levels few_servers = record {
   table = table;
   in_time = omega (arith, starts);
   phased = phased;
@@ -56,9 +62,26 @@ kept_unticked s table starts phased within jobs unpreempted unplaced none = reco
   preemptions = omega (arith, unpreempted);
   unfinished = ap (distinct_below s.count) none;
   recorded = λ t c on. let clash : false ≡ true = sym (ap (λ x. is_task (get_or x.held c None) t) unplaced ∙ none_on 16 c t) ∙ on in cc;
+  few_levels = few_levels;
+  few_servers = few_servers;
 }
 
 -- ---- an opened run
+
+-- the most servers that the levels of a plan have
+abbrev most : List ℕ
+most = 31 ∷ 16 ∷ 8 ∷ 4 ∷ 2 ∷ []
+
+pub kept_opened : (fit : Rule) (cores unit frames : ℕ) (sheet : List ℕ) (s : Tables) → Opens fit cores unit frames sheet s → Kept s
+kept_opened fit cores unit frames sheet s opens =
+    let plan = opens.plan.levels in
+    let tasks = all_tasks cores unit sheet in
+    let sized : sizes (levels_of s) ≡ sizes (servers_in plan) =
+    ap (λ st. sizes st.levels) opens.shows ∙ ap sizes (levels_begun frames (length sheet) (idle unit (spare cores unit sheet)) (opening tasks plan)) in
+    let small : AllByRecursion (λ n. n ≤ 31) most = (omega arith, (omega arith, (omega arith, (omega arith, (omega arith, tt))))) in
+    kept_unticked s opens.table opens.starts opens.phased opens.within opens.few_jobs opens.unpreempted opens.unplaced opens.none_unfinished
+    (omega (arith, level_count s _ sized, few_planned most plan opens.plan.sized))
+    (λ k. omega (arith, server_count s _ sized k, small_planned most plan k small opens.plan.sized))
 
 pub opened_run : (fit : Rule) → Lawful fit → (choose : Choosing) → LawfulChoosing choose → (cores unit frames : ℕ) (sheet : List ℕ) (s : Tables) → Opens fit cores unit frames sheet s
     → OpenedRun fit choose cores unit frames sheet s
@@ -77,6 +100,12 @@ opened_run fit fits choose chooses cores unit frames sheet s opens =
     }
 
 -- ---- a run that was never opened
+
+pub kept_blank : (s : Tables) → NeverOpened s → Kept s
+kept_blank s never =
+    let none : sizes (levels_of s) ≡ [] = ap (λ x. sizes x.levels) never.shows in
+    kept_unticked s never.table (ap (λ x. x.tick) never.shows) never.phased never.within never.few_jobs never.unpreempted never.unplaced never.none_unfinished
+    (omega (arith, level_count s [] none)) (λ k. omega (arith, server_count s [] none k))
 
 pub blank_run : (choose : Choosing) (s : Tables) → NeverOpened s → BlankRun choose s
 blank_run choose s never = record {

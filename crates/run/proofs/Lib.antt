@@ -12,6 +12,7 @@ pub mod Reading
 pub mod Renewals
 pub mod Rising
 pub mod Scan
+pub mod Sizes
 pub mod Spent
 pub mod Starting
 pub mod Stepping

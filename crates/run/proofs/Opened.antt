@@ -26,7 +26,7 @@ use Rattle.run.specs.Keeping.{due, DeadlinesWithin, FewJobs, Phased}
 use Rattle.run.specs.Opened.{begin_idle, begun_to, each, Filled, Fits, planned_tasks, rates_in, unbegun_task}
 use Rattle.run.specs.Phases.{is_awaited, next_in}
 use Rattle.run.specs.Views.{item_of, level_servers, tasks_of, view, blank_task}
-use Rattle.run.proofs.Written.{each_at, length_each, length_levels_in, length_servers_in}
+use Rattle.run.proofs.Written.{each_at, length_each, length_servers_in}
 
 -- ---- the theory: idle tasks begin their jobs
 
@@ -78,7 +78,7 @@ sum_of_some : {X : Type 0} (f : X → ℕ) (xs : List X) → AllByRecursion (λ 
 sum_of_some f [] all = omega arith
 sum_of_some f (x ∷ xs) all = omega (arith, all.0, sum_of_some f xs all.1, sum_by-cons f x xs)
 
-module _ (p : Plan) (cores frames sheet : ℕ) (fits : Fits p cores frames sheet) (n : ℕ) (counted : n ≡ length p.rates.items) where
+module _ (p : Plan) (cores frames sheet : ℕ) (fits : Fits p cores frames sheet) (n : ℕ) (counted : n ≡ length (rates_in p)) where
   abbrev planned : List Task
   planned = planned_tasks p
 
@@ -234,8 +234,8 @@ module _ (p : Plan) (cores frames sheet : ℕ) (fits : Fits p cores frames sheet
           let long : length idle ≡ n - sheet = length-map (drop sheet planned) (begun_to frames) ∙ length-drop sheet planned ∙ ap (λ n. n - sheet) length_tasks in
           omega (arith, ap (sum_by due_by) front, sum_by-append due_by (take sheet planned) idle, sum_of_some due_by idle each_some, long)
 
-      deep : length levels.items ≡ length p.levels.items
-      deep = sym (length-map levels.items level_servers) ∙ ap length made ∙ length_servers_in (levels_in p) ∙ length_levels_in p
+      deep : length levels.items ≡ length (levels_in p)
+      deep = sym (length-map levels.items level_servers) ∙ ap length made ∙ length_servers_in (levels_in p)
 
       opened_filled : Filled p cores frames sheet opened_state
       opened_filled = record {

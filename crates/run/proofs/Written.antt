@@ -6,6 +6,7 @@ use Rattle.packing.specs.Packing.{Packing}
 use Rattle.packing.specs.Tables.{over, levels_in, packing_in}
 use Rattle.packing.specs.declared.level.Level.{Level as PlanLevel}
 use Rattle.packing.specs.declared.plan.Plan.{Plan}
+use Rattle.packing.proofs.Climbing.{no_level}
 use Rattle.packing.proofs.Over.{over_push}
 use Rattle.levels.specs.declared.server.Server.{Server}
 use Rattle.levels.specs.Opening.{homes_in, servers_in, servers_of}
@@ -81,21 +82,25 @@ over_changed f old ys n m low high is =
 abbrev no_packing : Packing
 no_packing = record { homes = []; rates = [] }
 
-pub length_levels_in : (p : Plan) → length (levels_in p) ≡ length p.levels.items
-length_levels_in p = length-map p.levels.items packing_in
+-- those that count
+abbrev pub packed : Plan → List PlanLevel
+packed p = take p.depth p.levels
+
+pub length_levels_in : (p : Plan) → length (levels_in p) ≡ length (packed p)
+length_levels_in p = length-map (packed p) packing_in
 
 -- level k, whatever stands past the last
-level_at : (p : Plan) (k : ℕ) (l : PlanLevel) → k < length p.levels.items → l ≡ get_or p.levels.items k l → get_or (levels_in p) k no_packing ≡ packing_in l
-level_at p k l deep is = get_or-map packing_in p.levels.items k l no_packing deep ∙ ap packing_in (sym is)
+level_at : (p : Plan) (k : ℕ) (past : PlanLevel) → k < length (packed p) → get_or (levels_in p) k no_packing ≡ packing_in (get_or (packed p) k past)
+level_at p k past deep = get_or-map packing_in (packed p) k past no_packing deep
 
-pub homes_at : (p : Plan) (k i : ℕ) (l : PlanLevel) → k < length p.levels.items → l ≡ get_or p.levels.items k l
-    → get_or l.homes.items i None ≡ get_or (homes_in (drop k (levels_in p))) i None
+pub homes_at : (p : Plan) (k i : ℕ) (l : PlanLevel) → k < length (packed p) → l ≡ get_or (packed p) k l
+    → get_or (packing_in l).homes i None ≡ get_or (homes_in (drop k (levels_in p))) i None
 homes_at p k i l deep is =
     sym
     (ap (λ hs. get_or hs i None) (at_drop_more homes_in (levels_in p) k no_packing (omega (arith, length_levels_in p)))
-    ∙ ap (λ t. get_or t.homes i None) (level_at p k l deep is))
+    ∙ ap (λ t. get_or t.homes i None) (level_at p k l deep ∙ ap packing_in (sym is)))
 
-pub homes_past : (p : Plan) (k i : ℕ) → length p.levels.items ≤ k → None ≡ get_or (homes_in (drop k (levels_in p))) i None
+pub homes_past : (p : Plan) (k i : ℕ) → length (packed p) ≤ k → None ≡ get_or (homes_in (drop k (levels_in p))) i None
 homes_past p k i past =
     sym (ap (λ hs. get_or hs i None) (at_drop_all homes_in (levels_in p) k (omega (arith, length_levels_in p))) ∙ get_or_past [] i None (omega arith))
 
@@ -109,15 +114,16 @@ servers_at (l ∷ above) zero h = refl
 servers_at (l ∷ above) (suc k) h = servers_at above k (omega arith)
 
 -- one level more
-pub levels_more : (p : Plan) (ls : List (ArrayVec Server)) (new : ArrayVec Server) (k : ℕ) (l : PlanLevel) → k < length p.levels.items → l ≡ get_or p.levels.items k l
-    → new.items ≡ servers_of l.rates.items (homes_in (drop (k + 1) (levels_in p)))
+pub levels_more : (p : Plan) (ls : List (ArrayVec Server)) (new : ArrayVec Server) (k : ℕ) → k < length (packed p)
+    → new.items ≡ servers_of (packing_in (get_or (packed p) k no_level)).rates (homes_in (drop (k + 1) (levels_in p)))
     → map level_servers ls ≡ take k (servers_in (levels_in p)) → map level_servers (ls ++ new ∷ []) ≡ take (k + 1) (servers_in (levels_in p))
-levels_more p ls new k l deep is made was =
+levels_more p ls new k deep made was =
     let all = servers_in (levels_in p) in
+    let rates = (packing_in (get_or (packed p) k no_level)).rates in
     let here : get_or all k [] ≡ new.items =
     servers_at (levels_in p) k (omega (arith, length_levels_in p))
-    ∙ ap (λ t. servers_of t.rates (homes_in (drop (suc k) (levels_in p)))) (level_at p k l deep is)
-    ∙ ap (λ n. servers_of l.rates.items (homes_in (drop n (levels_in p)))) (sym (add-one k))
+    ∙ ap (λ t. servers_of t.rates (homes_in (drop (suc k) (levels_in p)))) (level_at p k no_level deep)
+    ∙ ap (λ n. servers_of rates (homes_in (drop n (levels_in p)))) (sym (add-one k))
     ∙ sym made in
     map_push level_servers ls new
     ∙ ap (λ ss. ss ++ level_servers new ∷ []) was

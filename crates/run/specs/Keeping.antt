@@ -4,6 +4,7 @@ use Rattle.cores.specs.Naming.{member}
 use Rattle.cores.specs.Placing.{is_task}
 use Rattle.run.specs.declared.state.State.{State}
 use Rattle.run.specs.Phases.{is_awaited}
+use Rattle.run.specs.Turns.{servers_at}
 use Rattle.run.specs.Views.{item_of, task_at}
 
 -- The run is not over, and the deadline is the frame that starts at the present tick.
@@ -57,3 +58,7 @@ pub record Kept (s : State) : Type 0 where
   pub preemptions : FewPreemptions s
   pub unfinished : UnfinishedTasks s
   pub recorded : CoresRecorded s
+  -- there are at most five levels, so at most four reductions
+  pub few_levels : length s.levels.items ≤ 5
+  -- no level has more than 31 servers
+  pub few_servers : (k : ℕ) → length (servers_at s k) ≤ 31

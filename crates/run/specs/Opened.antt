@@ -1,10 +1,9 @@
 -- The tables of a run as it is opened, and those of a run that was never opened; only contracts of private functions cite this.
-use Rattle.std.specs.Prelude.{◌≡◌, ℕ, suc, ◌-◌, ◌<◌, ◌≤◌, List, [], ◌∷◌, length, drop, None, Ok, Err, Option, Result, slice_index, slice_index_or}
+use Rattle.std.specs.Prelude.{◌≡◌, ℕ, suc, ◌-◌, ◌<◌, ◌≤◌, List, [], ◌∷◌, length, take, drop, None, Option, slice_index, slice_index_or}
 use Rattle.packing.specs.declared.plan.Plan.{Plan}
-use Rattle.packing.specs.declared.opening.OpeningRefusal.{OpeningRefusal}
 use Rattle.packing.specs.Fitting.{Rule}
 use Rattle.packing.specs.Plan.{all_tasks, idle, spare, OneSmallPlan}
-use Rattle.packing.specs.Openings.{OpeningAllowed, FirstOfOpening}
+use Rattle.packing.specs.Openings.{OpeningAllowed}
 use Rattle.packing.specs.Tables.{levels_in}
 use Rattle.cores.specs.Placing.{blank}
 use Rattle.levels.specs.declared.server.Server.{Server}
@@ -22,12 +21,12 @@ use Rattle.run.specs.Views.{view, machine, task_at}
 
 -- The rates of all tasks.
 abbrev pub rates_in : Plan → List ℕ
-rates_in p = p.rates.items
+rates_in p = take p.tasks p.rates
 
 -- The plan of a load within the limits, of which so many tasks are the sheet's.
 pub record Fits (p : Plan) (cores frames sheet : ℕ) : Type 0 where
-  pub sheet_tasks : sheet ≤ length p.rates.items
-  pub rated : (i : ℕ) → i < length p.rates.items → 1 ≤ slice_index p.rates.items i
+  pub sheet_tasks : sheet ≤ length (rates_in p)
+  pub rated : (i : ℕ) → i < length (rates_in p) → 1 ≤ slice_index (rates_in p) i
   pub few_cores : cores ≤ 16
   pub a_unit : 1 ≤ p.unit
   pub small_unit : p.unit ≤ 1000
@@ -69,15 +68,15 @@ pub record Filled (p : Plan) (cores frames sheet : ℕ) (s : State) : Type 0 whe
   pub runs_on : machine s ≡ record { unit = p.unit; frames = frames; cores = cores }
   pub starts : s.tick ≡ 0
   pub sheet_tasks : s.sheet ≡ sheet
-  pub all_tasks : s.count ≡ length p.rates.items
-  pub all_levels : length s.levels.items ≡ length p.levels.items
-  pub begun : s.jobs ≡ length p.rates.items - sheet
+  pub all_tasks : s.count ≡ length (rates_in p)
+  pub all_levels : length s.levels.items ≡ length (levels_in p)
+  pub begun : s.jobs ≡ length (rates_in p) - sheet
   pub unpreempted : s.preemptions ≡ 0
   pub unplaced : s.placing ≡ blank
   pub none_unfinished : s.unfinished.items ≡ []
   -- a task of the sheet is awaited, and an idle one is at work
   pub awaited : (i : ℕ) → i < sheet → (task_at s i).phase ≡ Awaited
-  pub at_work : (i : ℕ) → sheet ≤ i → i < length p.rates.items → (task_at s i).phase ≡ AtWork
+  pub at_work : (i : ℕ) → sheet ≤ i → i < length (rates_in p) → (task_at s i).phase ≡ AtWork
   pub phased : Phased s
   pub within : DeadlinesWithin s
   pub few_jobs : FewJobs s
@@ -99,11 +98,6 @@ pub record Opens (rule : Rule) (cores unit frames : ℕ) (sheet : List ℕ) (s :
   pub within : DeadlinesWithin s
   pub few_jobs : FewJobs s
   pub table : length s.tasks ≡ 80
-
--- The opening is refused, by the row that counts, or its run is opened.
-abbrev pub Opened : Rule → ℕ → ℕ → ℕ → List ℕ → Result State OpeningRefusal → Type 0
-Opened rule cores unit frames sheet (Err e) = FirstOfOpening cores unit frames sheet e
-Opened rule cores unit frames sheet (Ok s) = Opens rule cores unit frames sheet s
 
 -- A run that was never opened: over, with no tasks, tick 0 and all counts 0.
 pub record NeverOpened (s : State) : Type 0 where

@@ -1,4 +1,5 @@
 //! The questions that a run answers. They leave it as it is.
+ghost use Rattle.std.specs.Prelude.{◌≤◌};
 ghost use Rattle.ledger.specs.Calls.{ask, number, present_tick, left_of, deadline_of, is_awaited, reductions_made, jobs_begun, preemptions_made};
 ghost use Rattle.run.specs.Runs.{Follows, number_told, truth_told};
 
@@ -37,7 +38,8 @@ impl<C: Choosing> Run<C> {
 
     /// The reductions of the plan.
     pub fn reductions(&self) -> usize
-        ensures { Follows (C.chosen self.now.rule) self.now.state (ask reductions_made) (number result) self.now.state }
+        ensures follows { Follows (C.chosen self.now.rule) self.now.state (ask reductions_made) (number result) self.now.state }
+        ensures few { result ≤ 4 }
     {
         self.state.levels.len().saturating_sub(1)
     }

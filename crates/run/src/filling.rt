@@ -3,7 +3,7 @@ ghost use Rattle.std.specs.Prelude.{◌≡◌, ◌≤◌, length, map, drop, Non
 ghost use Rattle.packing.specs.Tables.{over, levels_in};
 ghost use Rattle.levels.specs.Opening.{homes_in, servers_in, servers_of, unbegun};
 ghost use Rattle.run.specs.Views.{level_servers};
-ghost use Rattle.run.specs.Opened.{Filled, Fits, Opened, planned_tasks, unbegun_server, unbegun_task};
+ghost use Rattle.run.specs.Opened.{Filled, Fits, planned_tasks, unbegun_server, unbegun_task};
 
 use crate::state::State;
 use crate::task::{Event, Phase, Task, all_on};
@@ -11,13 +11,13 @@ use arrayvec::ArrayVec;
 use choosing::Share;
 use cores::Cores;
 use levels::Server;
-use packing::{Fitting, LEVELS, Opening, OpeningRefusal, Plan, SERVERS, TASKS};
+use packing::{LEVELS, Plan, SERVERS, TASKS};
 
 /// The home that a level of the plan gives an item; there is none above the top.
 fn home_in(plan: &Plan, level: usize, item: usize) -> Option<u8>
     ensures { result ≡ slice_index_or (homes_in (drop level (levels_in plan.now))) item None }
 {
-    plan.levels.get(level)?.home(item)
+    plan.packed_levels().get(level)?.home(item)
 }
 
 /// A share before any job.
@@ -56,7 +56,7 @@ fn unbegun_server(rate: u16, home: Option<u8>) -> Server
 fn fill_tasks(plan: &Plan, tasks: &mut [Task; TASKS])
     ensures { tasks.new ≡ over (planned_tasks plan.now) tasks.old }
 {
-    for (i, rate) in plan.rates.iter().enumerate() {
+    for (i, rate) in plan.task_rates().iter().enumerate() {
         tasks[i] = unbegun_task(*rate, home_in(plan, 0, i));
     }
 }
@@ -78,8 +78,8 @@ fn levels_of(plan: &Plan) -> ArrayVec<ArrayVec<Server, SERVERS>, LEVELS>
     ensures { map level_servers result.items ≡ servers_in (levels_in plan.now) }
 {
     let mut levels = ArrayVec::new();
-    for (k, level) in plan.levels.iter().enumerate() {
-        levels.push(servers_of(plan, &level.rates, k + 1));
+    for (k, level) in plan.packed_levels().iter().enumerate() {
+        levels.push(servers_of(plan, level.server_rates(), k + 1));
     }
     levels
 }
@@ -92,7 +92,7 @@ pub(crate) fn filled(plan: &Plan, cores: u32, frames: u32, sheet: usize) -> Stat
 {
     let mut tasks = [Task::BLANK; TASKS];
     fill_tasks(plan, &mut tasks);
-    let count = plan.rates.len();
+    let count = plan.task_rates().len();
     all_on(
         &mut tasks[sheet..count],
         Event::Announce { deadline: frames },
@@ -111,14 +111,4 @@ pub(crate) fn filled(plan: &Plan, cores: u32, frames: u32, sheet: usize) -> Stat
         placing: Cores::new(),
         unfinished: ArrayVec::new(),
     }
-}
-
-/// The tables of a run as this opening opens it, or the refusal of the opening.
-pub(crate) fn open_tables<F: Fitting>(rule: &F, opening: &Opening) -> Result<State, OpeningRefusal>
-    ensures { Opened (F.fits rule.now) opening.now.load.cores opening.now.load.unit opening.now.frames opening.now.load.rates.now result }
-{
-    let mut plan = Plan::blank();
-    plan.make_for_run(rule, opening)?;
-    let load = opening.load;
-    Ok(filled(&plan, load.cores, opening.frames, load.rates.len()))
 }

@@ -1,10 +1,13 @@
 //! A level of a run: its servers, and the items that it packs.
-ghost use Rattle.std.specs.Prelude.{◌≡◌, ◌<◌, ◌≤◌, length};
-ghost use Rattle.levels.specs.Items.{dual_of, item_at};
+ghost use Rattle.std.specs.Prelude.{◌≡◌, ℕ, ◌-◌, ◌<◌, ◌≤◌, length, map};
+ghost use Rattle.levels.specs.Items.{dual_of};
+ghost use Rattle.levels.specs.declared.item.Item.{Item};
+ghost use Rattle.run.specs.Views.{item_of};
 
 use crate::state::State;
+use crate::task::Task;
 use choosing::Share;
-use levels::{Item, Server};
+use levels::Server;
 
 /// A level of the tables of a run.
 #[derive(Clone, Copy)]
@@ -15,24 +18,54 @@ pub(crate) struct Level<'a> {
     ghost there: { number < length state.now.levels.items },
 }
 
-/// The dual of a server, as an item of the next level.
-fn dual(server: Server, unit: u32) -> Item
-    requires { unit ≤ 1000 }
-    ensures { result ≡ dual_of unit server }
-{
-    let rate = unit.saturating_sub(u32::from(server.share.rate));
-    Item {
-        share: Share {
-            left: server.dual,
+/// What a level packs: a task, or a server of the level below for its dual.
+pub(crate) trait Packed {
+    /// It as an item, where a whole core has so many parts.
+    ghost item: { Self → ℕ → Item };
+
+    /// The server that it was placed in.
+    fn home(&self) -> Option<u8>
+        ensures { (unit : ℕ) → result ≡ (item self.now unit).home };
+
+    /// Its share.
+    fn share(&self, unit: u32) -> Share
+        requires { unit ≤ 1000 }
+        ensures { result ≡ (item self.now unit).share };
+}
+
+impl Packed for Task {
+    ghost item = { λ task _. item_of task };
+
+    fn home(&self) -> Option<u8> {
+        self.home
+    }
+
+    fn share(&self, _unit: u32) -> Share {
+        self.share
+    }
+}
+
+impl Packed for Server {
+    ghost item = { λ server unit. dual_of unit server };
+
+    fn home(&self) -> Option<u8> {
+        self.home
+    }
+
+    fn share(&self, unit: u32) -> Share {
+        let rate = unit.saturating_sub(u32::from(self.share.rate));
+        Share {
+            left: self.dual,
             rate: rate as u16,
-            deadline: server.share.deadline,
-        },
-        home: server.home,
+            deadline: self.share.deadline,
+        }
     }
 }
 
 impl<'a> Level<'a> {
-    ghost use Rattle.run.specs.Levels.{items_of, servers_of};
+    ghost use Rattle.run.specs.Levels.{servers_of};
+    ghost use Rattle.run.specs.Turns.{servers_at};
+    ghost use Rattle.run.specs.Views.{item_of, tasks_of};
 
     /// Its servers.
     pub fn servers(&self) -> &'a [Server]
@@ -42,27 +75,20 @@ impl<'a> Level<'a> {
         &self.state.levels[self.number]
     }
 
-    /// How many items it packs.
-    pub fn item_count(&self) -> usize
-        ensures all { result ≡ length (items_of self.now) }
-        ensures few { result ≤ 80 }
+    /// The tasks, which the lowest level packs.
+    pub fn tasks(&self) -> &'a [Task]
+        ensures tasks { map item_of result.now ≡ tasks_of self.now.state.now }
+        ensures few { length result.now ≤ 80 }
     {
-        if self.number == 0 {
-            self.state.count
-        } else {
-            self.state.levels[self.number - 1].len()
-        }
+        &self.state.tasks[..self.state.count]
     }
 
-    /// An item that it packs: a task, or the dual of a server of the level below.
-    pub fn item(&self, i: usize) -> Item
-        requires { i < length (items_of self.now) }
-        ensures { result ≡ item_at (items_of self.now) i }
+    /// The servers of the level below, whose duals it packs.
+    pub fn below(&self) -> &'a [Server]
+        requires { 0 < self.now.number }
+        ensures servers { result.now ≡ servers_at self.now.state.now (self.now.number - 1) }
+        ensures few { length result.now ≤ 31 }
     {
-        if self.number == 0 {
-            self.state.tasks[i].item()
-        } else {
-            dual(self.state.levels[self.number - 1][i], self.state.unit)
-        }
+        &self.state.levels[self.number - 1]
     }
 }

@@ -6,12 +6,12 @@ ghost use Rattle.run.specs.Runs.{BlankRun, OpenedAs, Follows, AsFound, Ticked, a
 ghost use Rattle.run.specs.Keeping.{Kept};
 
 use crate::announcing::begin_job;
-use crate::filling::open_tables;
+use crate::filling::filled;
 use crate::refusal::Refusal;
 use crate::state::State;
 use crate::ticking::carry_out;
 use choosing::Choosing;
-use packing::{Fitting, Opening, OpeningRefusal};
+use packing::{Fitting, Opening, OpeningRefusal, Plan};
 
 /// A run of the scheduler under a choosing rule.
 #[derive(Drop)]
@@ -38,7 +38,10 @@ impl<C: Choosing> Run<C> {
         ensures rule { self.new.rule ≡ self.old.rule }
         ensures opened { OpenedAs (F.fits fitting.now) (C.chosen self.old.rule) opening.now.load.cores opening.now.load.unit opening.now.frames opening.now.load.rates.now self.old.state self.new.state result }
     {
-        self.state = open_tables(fitting, opening)?;
+        let mut plan = Plan::blank();
+        plan.make_for_run(fitting, opening)?;
+        let load = opening.load;
+        self.state = filled(&plan, load.cores, opening.frames, load.rates.len());
         Ok(())
     }
 

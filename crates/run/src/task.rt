@@ -1,10 +1,8 @@
 //! A task of a run, and what happens to it.
 ghost use Rattle.std.specs.Prelude.{◌≡◌, ◌≤◌, map};
-ghost use Rattle.run.specs.Views.{item_of};
 ghost use Rattle.run.specs.Phases.{begun, next, phase_by_left, spent_in, is_awaited, WithinRun};
 
 use choosing::Share;
-use levels::Item;
 
 /// Where a task stands.
 #[derive(Clone, Copy)]
@@ -67,16 +65,6 @@ impl Task {
         home: None,
         phase: Phase::Served,
     };
-
-    /// The task as an item of level 0.
-    pub fn item(self) -> Item
-        ensures { result ≡ item_of self }
-    {
-        Item {
-            share: self.share,
-            home: self.home,
-        }
-    }
 
     /// Begins a job from the present deadline to this one.
     fn begin(&mut self, deadline: u32)

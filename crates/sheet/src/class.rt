@@ -39,5 +39,5 @@ impl Class {
 pub(crate) fn is_name_byte(b: u8) -> bool
     ensures { result ≡ name_byte b }
 {
-    Class::Digit.has(b) || Class::Capital.has(b)
+    matches!(classify(b), Class::Digit | Class::Capital)
 }

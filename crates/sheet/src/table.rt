@@ -64,5 +64,9 @@ impl Entry {
 pub fn rates(table: &[Entry; SHEET_TASKS]) -> [u16; SHEET_TASKS]
     ensures { result ≡ map (λ e. e.rate) table.now }
 {
-    table.map(|entry| entry.rate)
+    let mut rates = [0; SHEET_TASKS];
+    for (i, entry) in table.iter().enumerate() {
+        rates[i] = entry.rate;
+    }
+    rates
 }

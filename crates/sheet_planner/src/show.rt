@@ -11,7 +11,7 @@ fn print_tasks(rt: &HostRuntime, sheet: &Sheet, plan: &Plan) -> io::Result<()> {
         "cores {}, unit {}, frames {}",
         head.cores, head.unit, head.frames
     )?;
-    for (task, rate) in plan.rates.iter().enumerate() {
+    for (task, rate) in plan.task_rates().iter().enumerate() {
         let name = TaskText { names: sheet, task };
         print!(rt; "  {name}: rate {rate}")?;
         if let Some(entry) = sheet.tasks.get(task) {
@@ -36,7 +36,7 @@ fn print_way(rt: &HostRuntime, sheet: &Sheet, plan: &Plan, task: usize) -> io::R
 /// Prints the plan of a sheet.
 pub(crate) fn print_plan(rt: &HostRuntime, sheet: &Sheet, plan: &Plan) -> io::Result<()> {
     print_tasks(rt, sheet, plan)?;
-    for (depth, level) in plan.levels.iter().enumerate() {
+    for (depth, level) in plan.packed_levels().iter().enumerate() {
         let text = LevelText {
             names: sheet,
             unit: plan.unit,

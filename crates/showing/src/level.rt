@@ -1,6 +1,7 @@
 //! A level of a plan as text.
 ghost use Rattle.std.specs.Fmt.{WritesOnOk};
 ghost use Rattle.std.specs.Prelude.{Some};
+ghost use Rattle.packing.specs.Tables.{packing_in};
 ghost use Rattle.showing.specs.Texts.{client_text, clients_text, item_text, level_text, server_text, servers_text};
 
 use crate::names::TaskNames;
@@ -48,9 +49,9 @@ impl<'a, N: TaskNames> LevelText<'a, N> {
 
     /// Writes the clients of a server, in placing order.
     fn write_clients<W: fmt::Write>(&self, f: &mut fmt::Formatter<W>, server: usize) -> fmt::Result
-        ensures { WritesOnOk W.write_str_gives f.old result (clients_text (item_text (N.name self.now.names.now) self.now.depth) server self.now.level.now.homes.items) f.new }
+        ensures { WritesOnOk W.write_str_gives f.old result (clients_text (item_text (N.name self.now.names.now) self.now.depth) server (packing_in self.now.level.now).homes) f.new }
     {
-        let homes = self.level.homes.as_slice();
+        let homes = self.level.item_homes();
         let mut first = true;
         for (item, home) in homes.iter().enumerate() {
             if is_home(*home, server) {
@@ -68,7 +69,7 @@ impl<'a, N: TaskNames> LevelText<'a, N> {
         server: usize,
         rate: u16,
     ) -> fmt::Result
-        ensures { WritesOnOk W.write_str_gives f.old result (server_text (item_text (N.name self.now.names.now) self.now.depth) self.now.unit self.now.level.now.homes.items server rate) f.new }
+        ensures { WritesOnOk W.write_str_gives f.old result (server_text (item_text (N.name self.now.names.now) self.now.depth) self.now.unit (packing_in self.now.level.now).homes server rate) f.new }
     {
         let root = if rate == self.unit { ", a root" } else { "" };
         write!(f, "  server {server}, rate {rate}{root}")?;
@@ -78,9 +79,9 @@ impl<'a, N: TaskNames> LevelText<'a, N> {
 
     /// Writes a line for each server.
     fn write_servers<W: fmt::Write>(&self, f: &mut fmt::Formatter<W>) -> fmt::Result
-        ensures { WritesOnOk W.write_str_gives f.old result (servers_text (item_text (N.name self.now.names.now) self.now.depth) self.now.unit self.now.level.now.homes.items 0 self.now.level.now.rates.items) f.new }
+        ensures { WritesOnOk W.write_str_gives f.old result (servers_text (item_text (N.name self.now.names.now) self.now.depth) self.now.unit (packing_in self.now.level.now).homes 0 (packing_in self.now.level.now).rates) f.new }
     {
-        let rates = self.level.rates.as_slice();
+        let rates = self.level.server_rates();
         for (server, rate) in rates.iter().enumerate() {
             self.write_server(f, server, *rate)?;
         }
@@ -89,7 +90,7 @@ impl<'a, N: TaskNames> LevelText<'a, N> {
 }
 
 impl<'a, N: TaskNames> fmt::Display for LevelText<'a, N> {
-    ghost output = { λ shown. Some (level_text (N.name shown.names.now) shown.depth shown.unit shown.level.now.homes.items shown.level.now.rates.items) };
+    ghost output = { λ shown. Some (level_text (N.name shown.names.now) shown.depth shown.unit (packing_in shown.level.now).homes (packing_in shown.level.now).rates) };
 
     fn fmt<W: fmt::Write>(&self, f: &mut fmt::Formatter<W>) -> fmt::Result {
         let depth = self.depth;

@@ -1,9 +1,10 @@
-use Rattle.std.proofs.Common.{◌++◌, ◌∷◌, [], map, length, refl, sym, ap, ◌∙◌, subst, arith}
+use Rattle.std.proofs.Common.{◌≡◌, ◌++◌, ◌∷◌, [], map, length, refl, sym, ap, ◌∙◌, subst, arith}
 use Rattle.std.proofs.lemmas.Bool.{false≢true}
-use Rattle.packing.specs.Plan.{duals, IsPlan}
-use Rattle.packing.specs.Tables.{packing_in}
+use Rattle.packing.specs.Plan.{duals}
+use Rattle.packing.specs.Tables.{level_table, packing_in}
 use Rattle.packing.proofs.Plans.{one_small_plan}
 use Rattle.packing.proofs.Reached.{Reached, reached_none, few_servers, few_levels, reached_all, reached_more, packed_some, packed_is}
+use Rattle.packing.proofs.Tabled.{built}
 use Rattle.packing.proofs.build.build.Goals as goal
 
 pub unwrap-level-requires : goal.unwrap-level-requires
@@ -33,7 +34,7 @@ unwrap-above-requires g c =
     let items = c.args.rates.items in
     let done = c.loop-level.levels.items in
     let level = c.loop-level.level in
-    let above = duals c.args.unit level.rates.items in
+    let above = duals c.args.unit (packing_in level).rates in
     let test = c.loop-level-test.ensures in
     let next = reached_more rule c.args.unit items done level c.loop-level.invariant (λ roots. false≢true (test.1 roots)) in
     let same = c.deref-in-loop-level.ensures.0 ∙ c.duals.ensures in
@@ -56,7 +57,7 @@ loop-level-preserved g c =
     let items = c.args.rates.items in
     let done = c.loop-level.levels.items in
     let level = c.loop-level.level in
-    let above = duals c.args.unit level.rates.items in
+    let above = duals c.args.unit (packing_in level).rates in
     let test = c.loop-level-test.ensures in
     record {
       items = above;
@@ -75,12 +76,8 @@ push-requires-2 g c =
 pub returns : goal.returns
 returns g c =
     let rule = g.F.Fitting.fits c.args.rule.now in
-    let items = c.args.rates.items in
+    let tasks = c.args.rates.items in
     let test = c.loop-level-test.ensures in
-    record {
-      unit_kept = refl;
-      tasks_kept = refl;
-      is_plan =
-          subst (λ ls. IsPlan rule c.args.unit items (map packing_in ls)) (sym c.push-2.ensures.items)
-          (reached_all rule c.args.unit items c.loop-level.levels.items c.loop-level.level c.loop-level.invariant (test.0 refl));
-    }
+    let all = reached_all rule c.args.unit tasks c.loop-level.levels.items c.loop-level.level c.loop-level.invariant (test.0 refl) in
+    let stored : c.deref-3.result.now ≡ map level_table all.0 = c.deref-3.ensures.0 ∙ c.push-2.ensures.items ∙ all.2 in
+    built rule c.args.unit tasks all.0 c.plan_table.result all.1 (rw c.deref-2.ensures.0 at (c.plan_table.ensures all.0 stored))

@@ -6,7 +6,7 @@ use Rattle.run.proofs.filling.home_in.Goals as goal
 pub returns : goal.returns
 returns c =
     let found = c.in_ok-get.ensures.lookup in
-    let deep : c.args.level < length c.deref.result.now = ltb-true _ _ (sym found.0) in
+    let deep : c.args.level < length c.packed_levels.result.now = ltb-true _ _ (sym found.0) in
     c.home.ensures
     ∙ homes_at c.args.plan.now c.args.level c.args.item c.in_ok-get.field-0.now
-    (rw c.deref.ensures.0 at deep) (rw c.deref.ensures.0 at found.1)
+    (rw c.packed_levels.ensures.levels at deep) (rw c.packed_levels.ensures.levels at found.1)

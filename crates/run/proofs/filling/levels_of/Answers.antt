@@ -10,10 +10,10 @@ pub loop-k-preserved : goal.loop-k-preserved
 loop-k-preserved c =
     let p = c.args.plan.now in
     let k = c.loop-k.k in
-    let made = c.servers_of.ensures ∙ ap (λ rates. servers_of rates (homes_in (drop (k + 1) (levels_in p)))) c.deref.ensures.0 in (
+    let levels = c.packed_levels-level-items.ensures.levels in
+    let made = rw levels at (c.servers_of.ensures ∙ ap (λ rates. servers_of rates (homes_in (drop (k + 1) (levels_in p)))) c.server_rates.ensures.rates) in (
       ap (map level_servers) c.push.ensures.items
-          ∙ levels_more p c.loop-k.levels.items c.servers_of.result k c.level-item.result (rw c.deref-level-items.ensures.0 at c.loop-k-test.true)
-          (rw c.deref-level-items.ensures.0 at c.level-item.is) made c.loop-k.invariant.0,
+          ∙ levels_more p c.loop-k.levels.items c.servers_of.result k (rw levels at c.loop-k-test.true) made c.loop-k.invariant.0,
       omega (arith, c.push.ensures.len, c.loop-k.invariant.1),
     )
 
@@ -21,4 +21,4 @@ pub returns : goal.returns
 returns c =
     let p = c.args.plan.now in
     c.loop-k.invariant.0
-    ∙ take_all c.loop-k.k (servers_in (levels_in p)) (omega (arith, length_servers_in (levels_in p), length_levels_in p, ap length c.deref-level-items.ensures.0, c.loop-k-test.false))
+    ∙ take_all c.loop-k.k (servers_in (levels_in p)) (omega (arith, length_servers_in (levels_in p), length_levels_in p, ap length c.packed_levels-level-items.ensures.levels, c.loop-k-test.false))

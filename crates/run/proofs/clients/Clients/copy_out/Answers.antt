@@ -1,46 +1,22 @@
-use Rattle.std.proofs.Common.{◌<◌, [], ◌∷◌, ◌++◌, length, sym, ap, ◌∙◌, arith}
-use Rattle.std.proofs.lemmas.List.{take_all}
-use Rattle.levels.specs.Items.{clients}
-use Rattle.run.specs.Levels.{items_of}
-use Rattle.run.specs.Turns.{places_from}
-use Rattle.run.proofs.Scan.{clients_yes, clients_no, places_yes, places_no}
+use Rattle.std.proofs.Common.{◌≡◌, length, sym, ap, ◌∙◌, arith}
+use Rattle.levels.specs.Items.{clients, duals}
+use Rattle.run.specs.Turns.{items_at, places_from}
+use Rattle.run.proofs.Levelled.{items_high, count_high}
 use Rattle.run.proofs.clients.Clients.copy_out.Goals as goal
-use Rattle.run.proofs.clients.Clients.copy_out.Goals.{then-is_home, else-is_home}
 
-pub loop-i-preserved : goal.loop-i-preserved
-loop-i-preserved c =
-    let items = items_of c.args.level.now in
-    let x = c.item-item.result in
-    let i = c.loop-i.i in
-    let j = c.args.server in
-    let within : i < length items = omega (arith, c.item_count-i-end.ensures.all, c.loop-i-test.true) in
-    elim c.if-is_home.branch [
-      | then-is_home w ↦
-          let at = sym c.is_home.ensures ∙ w.if-is_home.true in
-          let shares = ap (λ t. t.shares.items) w.self-is ∙ w.push.ensures.items in
-          let places = ap (λ t. t.places.items) w.self-is ∙ w.push-then-is_home.ensures.items in
-          record {
-            shares = shares ∙ ap (λ l. l ++ x.share ∷ []) c.loop-i.invariant.shares ∙ sym (clients_yes items i j x within c.item-item.ensures at);
-            places = places ∙ ap (λ l. l ++ i ∷ []) c.loop-i.invariant.places ∙ sym (places_yes items i j x within c.item-item.ensures at);
-            few_shares = omega (arith, ap (λ t. length t.shares.items) w.self-is, w.push.ensures.len);
-            few_places = omega (arith, ap (λ t. length t.places.items) w.self-is, w.push-then-is_home.ensures.len);
-          }
-      | else-is_home w ↦
-          let at = sym c.is_home.ensures ∙ w.if-is_home.false in
-          record {
-            shares = ap (λ t. t.shares.items) w.self-is ∙ c.loop-i.invariant.shares ∙ sym (clients_no items i j x within c.item-item.ensures at);
-            places = ap (λ t. t.places.items) w.self-is ∙ c.loop-i.invariant.places ∙ sym (places_no items i j x within c.item-item.ensures at);
-            few_shares = omega (arith, ap (λ t. length t.shares.items) w.self-is);
-            few_places = omega (arith, ap (λ t. length t.places.items) w.self-is);
-          }
-    ]
+-- above the lowest level it packs the duals of the servers below
+duals_packed : (c : goal.After-copy-else-level-eq0) → duals c.args.level.now.state.now.unit c.below.result.now ≡ items_at c.args.level.now.state.now c.args.level.now.number
+duals_packed c =
+    let l = c.args.level.now in
+    ap (duals l.state.now.unit) c.below.ensures.servers ∙ sym (items_high l.state.now l.number (omega (arith, c.if-level-eq0.false)) l.there)
 
-pub returns : goal.returns
-returns c =
-    let items = items_of c.args.level.now in
-    let all = take_all c.loop-i.i items (omega (arith, c.item_count-i-end.ensures.all)) in
-    record {
-      shares = c.loop-i.invariant.shares ∙ ap (λ xs. clients xs c.args.server) all;
-      places = c.loop-i.invariant.places ∙ ap (λ xs. places_from 0 xs c.args.server) all;
-      few = omega (arith, c.item_count-i-end.ensures.all, c.item_count-i-end.ensures.few);
-    }
+pub returns-else-level-eq0-clause-shares : goal.returns-else-level-eq0-clause-shares
+returns-else-level-eq0-clause-shares c = c.copy-else-level-eq0.ensures.shares ∙ ap (λ xs. clients xs c.args.server) (duals_packed c)
+
+pub returns-else-level-eq0-clause-places : goal.returns-else-level-eq0-clause-places
+returns-else-level-eq0-clause-places c = c.copy-else-level-eq0.ensures.places ∙ ap (λ xs. places_from 0 xs c.args.server) (duals_packed c)
+
+pub returns-else-level-eq0-clause-few : goal.returns-else-level-eq0-clause-few
+returns-else-level-eq0-clause-few c =
+    let l = c.args.level.now in
+    omega (arith, count_high l.state.now l.number (omega (arith, c.if-level-eq0.false)) l.there, ap length c.below.ensures.servers, c.below.ensures.few)

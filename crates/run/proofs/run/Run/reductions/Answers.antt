@@ -11,4 +11,7 @@ returns g c =
     let size : c.len.result ≡ length s.levels.items = search rules in
     let same : c.saturating_sub.result ≡ length (levels_of s) - 1 =
     omega (arith, c.saturating_sub.ensures, size, length-map s.levels.items level_servers) in
-    asked_follows (g.C.Choosing.chosen c.args.self.now.rule) s reductions_made (number c.saturating_sub.result) (ap number same)
+    record {
+      follows = asked_follows (g.C.Choosing.chosen c.args.self.now.rule) s reductions_made (number c.saturating_sub.result) (ap number same);
+      few = omega (arith, c.saturating_sub.ensures, size, c.args.self.now.kept.few_levels);
+    }

@@ -15,17 +15,17 @@ loop-item-preserved g c plain =
     elim c.if-is_home.branch [
       | then-is_home+in_ok-write_client w ↦
           simp (w.f-is, w.first-is)
-          (client_written g.W.Write.write_str_gives c.args.f.now c.loop-item.f text c.args.server c.as_slice-homes.result.now c.loop-item.first c.loop-item.item _ c.loop-item-test.true before
+          (client_written g.W.Write.write_str_gives c.args.f.now c.loop-item.f text c.args.server c.item_homes-homes.result.now c.loop-item.first c.loop-item.item _ c.loop-item-test.true before
           w.write_client.new.f (sym c.is_home.ensures ∙ w.if-is_home.true) (w.in_ok-write_client.ensures before.1.plain refl))
       | else-is_home w ↦
           simp (w.f-is, w.first-is)
-          (other_passed g.W.Write.write_str_gives c.args.f.now c.loop-item.f text c.args.server c.as_slice-homes.result.now c.loop-item.first c.loop-item.item _ c.loop-item-test.true before
+          (other_passed g.W.Write.write_str_gives c.args.f.now c.loop-item.f text c.args.server c.item_homes-homes.result.now c.loop-item.first c.loop-item.item _ c.loop-item-test.true before
           (sym c.is_home.ensures ∙ w.if-is_home.false))
     ]
 
 pub returns : goal.returns
 returns g c plain _ =
     let text : ℕ → List ℕ = item_text (g.N.TaskNames.name c.args.self.now.names.now) c.args.self.now.depth in
-    let homes = c.as_slice-homes.result.now in
-    rw c.as_slice-homes.ensures.value at (all_written g.W.Write.write_str_gives c.args.f.now c.loop-item.f (clients_from text c.args.server true 0 homes)
+    let homes = c.item_homes-homes.result.now in
+    rw c.item_homes-homes.ensures at (all_written g.W.Write.write_str_gives c.args.f.now c.loop-item.f (clients_from text c.args.server true 0 homes)
     (rw (at_drop_all (clients_from text c.args.server c.loop-item.first c.loop-item.item) homes c.loop-item.item c.loop-item-test.false) at (c.loop-item.invariant plain)))

@@ -1,5 +1,5 @@
 //! The tables of a run, filled from its plan.
-ghost use Rattle.std.specs.Prelude.{◌≡◌, ◌≤◌, length, map, drop, None, slice_index_or};
+ghost use Rattle.std.specs.Prelude.{◌≡◌, ◌≤◌, [], length, map, drop, None, slice_index_or};
 ghost use Rattle.packing.specs.Tables.{over, levels_in};
 ghost use Rattle.levels.specs.Opening.{homes_in, servers_in, servers_of, unbegun};
 ghost use Rattle.run.specs.Views.{level_servers};
@@ -73,15 +73,14 @@ fn servers_of(plan: &Plan, rates: &[u16], above: usize) -> ArrayVec<Server, SERV
     servers
 }
 
-/// The levels of the plan.
-fn levels_of(plan: &Plan) -> ArrayVec<ArrayVec<Server, SERVERS>, LEVELS>
-    ensures { map level_servers result.items ≡ servers_in (levels_in plan.now) }
+/// Fills a vector with the levels of the plan.
+fn fill_levels(plan: &Plan, levels: &mut ArrayVec<ArrayVec<Server, SERVERS>, LEVELS>)
+    requires { levels.old.items ≡ [] }
+    ensures { map level_servers levels.new.items ≡ servers_in (levels_in plan.now) }
 {
-    let mut levels = ArrayVec::new();
     for (k, level) in plan.packed_levels().iter().enumerate() {
         levels.push(servers_of(plan, level.server_rates(), k + 1));
     }
-    levels
 }
 
 /// The tables of a run as it is opened over its plan, for so many tasks of the sheet. The idle tasks, which come after these,
@@ -97,6 +96,8 @@ pub(crate) fn filled(plan: &Plan, cores: u32, frames: u32, sheet: usize) -> Stat
         &mut tasks[sheet..count],
         Event::Announce { deadline: frames },
     );
+    let mut levels = ArrayVec::new();
+    fill_levels(plan, &mut levels);
     State {
         cores,
         unit: u32::from(plan.unit),
@@ -105,7 +106,7 @@ pub(crate) fn filled(plan: &Plan, cores: u32, frames: u32, sheet: usize) -> Stat
         sheet,
         tasks,
         count,
-        levels: levels_of(plan),
+        levels,
         jobs: (count - sheet) as u64,
         preemptions: 0,
         placing: Cores::new(),

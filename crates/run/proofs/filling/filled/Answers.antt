@@ -13,7 +13,7 @@ returns c =
     let low : c.args.sheet ≤ n = omega (arith, c.requires.sheet_tasks, counted) in
     let begun = over_changed (begun_to c.args.frames) first c.all_on.new.tasks c.args.sheet n low (omega arith) c.all_on.ensures in
     filled_tables plan c.args.cores c.args.frames c.args.sheet c.requires n counted
-    c.levels_of.result c.levels_of.ensures c.new-2.result c.new-2.ensures _ _ _ _ c.from.result _ _ c.new.result
+    c.fill_levels.new.levels c.fill_levels.ensures c.new-2.result c.new-2.ensures _ _ _ _ c.from.result _ _ c.new.result
     c.from.ensures
     (tasks_filled plan c.args.cores c.args.frames c.args.sheet c.requires n counted first _ c.fill_tasks.ensures begun)
     c.new.ensures.blank

@@ -4,7 +4,7 @@ use Rattle.packing.specs.Tables.{levels_in}
 use Rattle.levels.specs.Opening.{homes_in, servers_in, servers_of}
 use Rattle.run.specs.Views.{level_servers}
 use Rattle.run.proofs.Written.{length_levels_in, length_servers_in, levels_more}
-use Rattle.run.proofs.filling.levels_of.Goals as goal
+use Rattle.run.proofs.filling.fill_levels.Goals as goal
 
 pub loop-k-preserved : goal.loop-k-preserved
 loop-k-preserved c =

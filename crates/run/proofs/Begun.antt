@@ -24,6 +24,7 @@ use Rattle.run.specs.Runs.{figures_of, run_of}
 use Rattle.run.specs.Views.{item_of, tasks_of, blank_task, task_at}
 use Rattle.run.proofs.Starting.{has_unit}
 use Rattle.run.proofs.Reading.{item_is_task, awaited_read}
+use Rattle.run.proofs.Unsized.{KeptUnsized, kept_sized}
 
 -- An announcement that no row refuses: the task is one of the sheet and awaited, and the deadline is later and within the run.
 pub record MayBegin (s : State) (i d : ℕ) : Type 0 where
@@ -34,7 +35,7 @@ pub record MayBegin (s : State) (i d : ℕ) : Type 0 where
   pub later : s.tick / s.unit < d
   pub within : d ≤ s.frames
 
-pub may_begin : (s : State) (i d : ℕ) → Kept s → refusal (figures_of s) (announce i d) ≡ None → MayBegin s i d
+pub may_begin : (s : State) (i d : ℕ) → KeptUnsized s → refusal (figures_of s) (announce i d) ≡ None → MayBegin s i d
 may_begin s i d kept none =
     let (lasts, (known, (waits, (later, (in_run, _))))) = none_holds (announce_refusals (figures_of s) i d) none in
     let here : i < s.sheet = leb-false s.sheet i known in
@@ -79,7 +80,7 @@ not_marked false = refl
 abbrev deadline_sum : State → ℕ
 deadline_sum s = sum_by (λ (t : Task). t.share.deadline) (take s.count s.tasks)
 
-deadline_sum_bound : (s : State) → Kept s → deadline_sum s ≤ 80 * 65535
+deadline_sum_bound : (s : State) → KeptUnsized s → deadline_sum s ≤ 80 * 65535
 deadline_sum_bound s kept =
     let n : length (take s.count s.tasks) ≤ 80 = omega (arith, length-take s.count s.tasks, s.few_tasks) in
     let each : AllByRecursion (λ (t : Task). t.share.deadline ≤ 65535) (take s.count s.tasks) = All-from_get_or (λ (t : Task). t.share.deadline ≤ 65535) (take s.count s.tasks) blank_task
@@ -87,12 +88,12 @@ deadline_sum_bound s kept =
     omega (arith, ap (λ (t : Task). t.share.deadline) (get_or-take s.count s.tasks i blank_task below), kept.within i below, s.few_frames)) in
     omega (arith, sum_by_le (λ (t : Task). t.share.deadline) 65535 (take s.count s.tasks) each, mul-le-mul_right 65535 n)
 
-pub jobs_fit : (s : State) → Kept s → s.jobs + 1 < 2 ^ 64
+pub jobs_fit : (s : State) → KeptUnsized s → s.jobs + 1 < 2 ^ 64
 jobs_fit s kept = omega (arith, kept.jobs, deadline_sum_bound s kept)
 
 -- ---- the run after it
 
-module _ (s : State) (i d : ℕ) (kept : Kept s) (may : MayBegin s i d) where
+module _ (s : State) (i d : ℕ) (kept : KeptUnsized s) (may : MayBegin s i d) where
   abbrev t : Task
   t = task_at s i
 
@@ -144,7 +145,7 @@ module _ (s : State) (i d : ℕ) (kept : Kept s) (may : MayBegin s i d) where
       ∙ sym (and_right (not (leb (s.unit * s.frames) s.tick)) (eqb s.tick (s.unit * d)) (ne_eqb s.tick (s.unit * d) (λ e. omega (arith, tick_before))))
       ∙ ap (λ (x : Task). due s x.share.deadline) (sym at_here)
 
-  pub kept_begun : Kept s'
+  pub kept_begun : KeptUnsized s'
   kept_begun = record {
     table = rw length-set kept.table;
     in_time = kept.in_time;
@@ -168,6 +169,8 @@ module _ (s : State) (i d : ℕ) (kept : Kept s) (may : MayBegin s i d) where
     preemptions = kept.preemptions;
     unfinished = kept.unfinished;
     recorded = kept.recorded;
-    few_levels = kept.few_levels;
-    few_servers = kept.few_servers;
   }
+
+  -- and the levels stay as they are
+  pub sized_begun : Kept s → Kept s'
+  sized_begun all = kept_sized s' kept_begun all.few_levels all.few_servers

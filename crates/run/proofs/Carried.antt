@@ -37,10 +37,11 @@ use Rattle.run.proofs.Begun.{not_marked}
 use Rattle.run.proofs.Distinct.{distinct_from, distinct_to, same_by}
 use Rattle.run.proofs.Reading.{item_is_task, awaited_read}
 use Rattle.run.proofs.Sizes.{level_count, server_count, sizes, sizes_stepped}
+use Rattle.run.proofs.Unsized.{KeptUnsized, kept_sized}
 
 -- ---- a granted tick
 
-module _ (s : State) (kept : Kept s) (width : ℕ) (granted : None ≡ refusal (figures_of s) (tick width)) where
+module _ (s : State) (kept : KeptUnsized s) (width : ℕ) (granted : None ≡ refusal (figures_of s) (tick width)) where
   pub goes_on : s.tick < s.unit * s.frames
   goes_on = leb-false (s.unit * s.frames) s.tick (none_holds (tick_refusals (figures_of s) width) (sym granted)).0
 
@@ -184,8 +185,8 @@ module _ (s : State) (kept : Kept s) (width : ℕ) (granted : None ≡ refusal (
         sizes_now : sizes (levels_of s1) ≡ sizes (levels_of s)
         sizes_now = ap (λ st. sizes st.levels) w.goes ∙ sizes_stepped (always choose) (machine s) (view s)
 
-        pub kept_ticked : Phased s4 → Recorded p3 → Kept s4
-        kept_ticked phased recorded = subst Kept (sym whole) (record {
+        kept_after : Phased s4 → Recorded p3 → KeptUnsized after
+        kept_after phased recorded = record {
           table = long;
           in_time = goes_on;
           phased = subst Phased whole phased;
@@ -196,9 +197,18 @@ module _ (s : State) (kept : Kept s) (width : ℕ) (granted : None ≡ refusal (
               (subst Different (sym left_over) (different_kept (has_left s1.tasks) nm w.exactly.0))
               (subst (AllByRecursion (λ i. i < s.count)) (sym left_over) (all_kept_by (has_left s1.tasks) (λ i. i < s.count) nm w.below));
           recorded = λ t c on. is_task_of (get_or p3.last t None) c (recorded t c (task_of (get_or p3.held c None) t on));
-          few_levels = omega (arith, kept.few_levels, level_count s _ refl, level_count s1 _ sizes_now);
-          few_servers = λ k. omega (arith, kept.few_servers k, server_count s _ refl k, server_count s1 _ sizes_now k);
-        })
+        }
+
+        pub kept_ticked : Phased s4 → Recorded p3 → KeptUnsized s4
+        kept_ticked phased recorded = subst KeptUnsized (sym whole) (kept_after phased recorded)
+
+        -- and the levels have as many servers as before
+        pub sized_ticked : Kept s → Phased s4 → Recorded p3 → Kept s4
+        sized_ticked all phased recorded =
+            subst Kept (sym whole)
+            (kept_sized after (kept_after phased recorded)
+            (omega (arith, all.few_levels, level_count s _ refl, level_count s1 _ sizes_now))
+            (λ k. omega (arith, all.few_servers k, server_count s _ refl k, server_count s1 _ sizes_now k)))
 
         -- ---- the cores
 

@@ -17,10 +17,10 @@ use Rattle.run.specs.declared.state.State.{State as Tables}
 use Rattle.run.specs.Keeping.{Phased, DeadlinesWithin, FewJobs, Kept, distinct_below}
 use Rattle.run.specs.Opened.{begin_idle, Opens, NeverOpened}
 use Rattle.run.specs.Runs.{run_of, setting_of, OpenedRun, BlankRun}
-use Rattle.run.specs.Turns.{servers_at}
 use Rattle.run.specs.Views.{levels_of}
 use Rattle.run.proofs.Sizes.{few_planned, level_count, levels_begun, server_count, sizes, small_planned}
 use Rattle.run.proofs.Tables.{get_or_blank}
+use Rattle.run.proofs.Unsized.{KeptUnsized, kept_sized}
 
 -- idle tasks begin their jobs: the state and the count of jobs apart
 begun_apart : (frames i : ℕ) (rates : List ℕ) (st : State) (jobs preemptions : ℕ) (before : ℕ → Bool)
@@ -51,9 +51,8 @@ is_opened fit cores unit frames sheet s choose opens =
 none_on : (n c t : ℕ) → is_task (get_or (replicate n None) c None) t ≡ false
 none_on n c t = ap (λ x. is_task x t) (get_or_blank None n c)
 
-pub kept_unticked : (s : Tables) → length s.tasks ≡ 80 → s.tick ≡ 0 → Phased s → DeadlinesWithin s → FewJobs s → s.preemptions ≡ 0 → s.placing ≡ blank → s.unfinished.items ≡ []
-    → length s.levels.items ≤ 5 → ((k : ℕ) → length (servers_at s k) ≤ 31) → Kept s
-kept_unticked s table starts phased within jobs unpreempted unplaced none few_levels few_servers = record {
+pub kept_unticked : (s : Tables) → length s.tasks ≡ 80 → s.tick ≡ 0 → Phased s → DeadlinesWithin s → FewJobs s → s.preemptions ≡ 0 → s.placing ≡ blank → s.unfinished.items ≡ [] → KeptUnsized s
+kept_unticked s table starts phased within jobs unpreempted unplaced none = record {
   table = table;
   in_time = omega (arith, starts);
   phased = phased;
@@ -62,8 +61,6 @@ kept_unticked s table starts phased within jobs unpreempted unplaced none few_le
   preemptions = omega (arith, unpreempted);
   unfinished = ap (distinct_below s.count) none;
   recorded = λ t c on. let clash : false ≡ true = sym (ap (λ x. is_task (get_or x.held c None) t) unplaced ∙ none_on 16 c t) ∙ on in cc;
-  few_levels = few_levels;
-  few_servers = few_servers;
 }
 
 -- ---- an opened run
@@ -79,7 +76,7 @@ kept_opened fit cores unit frames sheet s opens =
     let sized : sizes (levels_of s) ≡ sizes (servers_in plan) =
     ap (λ st. sizes st.levels) opens.shows ∙ ap sizes (levels_begun frames (length sheet) (idle unit (spare cores unit sheet)) (opening tasks plan)) in
     let small : AllByRecursion (λ n. n ≤ 31) most = (omega arith, (omega arith, (omega arith, (omega arith, (omega arith, tt))))) in
-    kept_unticked s opens.table opens.starts opens.phased opens.within opens.few_jobs opens.unpreempted opens.unplaced opens.none_unfinished
+    kept_sized s (kept_unticked s opens.table opens.starts opens.phased opens.within opens.few_jobs opens.unpreempted opens.unplaced opens.none_unfinished)
     (omega (arith, level_count s _ sized, few_planned most plan opens.plan.sized))
     (λ k. omega (arith, server_count s _ sized k, small_planned most plan k small opens.plan.sized))
 
@@ -104,7 +101,7 @@ opened_run fit fits choose chooses cores unit frames sheet s opens =
 pub kept_blank : (s : Tables) → NeverOpened s → Kept s
 kept_blank s never =
     let none : sizes (levels_of s) ≡ [] = ap (λ x. sizes x.levels) never.shows in
-    kept_unticked s never.table (ap (λ x. x.tick) never.shows) never.phased never.within never.few_jobs never.unpreempted never.unplaced never.none_unfinished
+    kept_sized s (kept_unticked s never.table (ap (λ x. x.tick) never.shows) never.phased never.within never.few_jobs never.unpreempted never.unplaced never.none_unfinished)
     (omega (arith, level_count s [] none)) (λ k. omega (arith, server_count s [] none k))
 
 pub blank_run : (choose : Choosing) (s : Tables) → NeverOpened s → BlankRun choose s

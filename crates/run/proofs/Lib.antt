@@ -20,6 +20,7 @@ pub mod Steps
 pub mod Tables
 pub mod Ticked
 pub mod Unfinished
+pub mod Unsized
 pub mod Written
 pub mod Ledgered
 pub mod Ruling

@@ -15,11 +15,11 @@ use Rattle.ledger.specs.Theorems.{CallConforms}
 use Rattle.ledger.proofs.Tables.{none_holds}
 use Rattle.ledger.proofs.Conforming.{every_call_conforms, names_fill}
 use Rattle.run.specs.declared.state.State.{State}
-use Rattle.run.specs.Keeping.{Kept}
 use Rattle.run.specs.Runs.{setting_of, run_of, figures_of, named_by, GrantedTick}
 use Rattle.run.proofs.Listing.{below_passing}
+use Rattle.run.proofs.Unsized.{KeptUnsized}
 
-module _ (choose : Rule) (s : State) (kept : Kept s) (old new : List ℕ) (s' : State) (t : GrantedTick choose s old s' new) where
+module _ (choose : Rule) (s : State) (kept : KeptUnsized s) (old new : List ℕ) (s' : State) (t : GrantedTick choose s old s' new) where
   pub wide : s.cores ≤ length old
   wide = ltb-false (length old) s.cores (none_holds (tick_refusals (figures_of s) (length old)) (sym t.granted)).1.0
 

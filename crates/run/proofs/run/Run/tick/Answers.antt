@@ -2,6 +2,7 @@ use Rattle.std.proofs.Common.{length, refl, rules}
 use Rattle.ledger.specs.Calls.{tick}
 use Rattle.run.proofs.Ruling.{tick_law}
 use Rattle.run.proofs.Steps.{check_law}
+use Rattle.run.proofs.Unsized.{unsized}
 use Rattle.run.proofs.run.Run.tick.Goals as goal
 
 pub carry_out-requires : goal.carry_out-requires
@@ -19,6 +20,6 @@ pub returns : goal.returns
 returns g c = record {
   rule = refl;
   ticked = c.carry_out.ensures.ticked;
-  law = tick_law (g.C.Choosing.chosen c.args.self.now.rule) c.args.self.now.state c.args.self.now.kept c.args.list.now c.carry_out.new.list c.carry_out.new.state
+  law = tick_law (g.C.Choosing.chosen c.args.self.now.rule) c.args.self.now.state (unsized c.args.self.now.state c.args.self.now.kept) c.args.list.now c.carry_out.new.list c.carry_out.new.state
       c.carry_out.ensures.ticked;
 }

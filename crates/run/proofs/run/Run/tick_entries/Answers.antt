@@ -7,6 +7,7 @@ use Rattle.run.specs.Replays.{Answer, answer_of, TickAnswered}
 use Rattle.run.specs.Runs.{run_of, setting_of, Lawfully}
 use Rattle.run.proofs.Distinct.{same_front}
 use Rattle.run.proofs.Ruling.{wide}
+use Rattle.run.proofs.Unsized.{unsized}
 use Rattle.run.proofs.run.Run.tick_entries.Goals as goal
 
 pub returns : goal.returns
@@ -19,7 +20,7 @@ returns g c =
     let new = c.tick.new.list in
     let kept = c.args.self.now.kept in
     let done = c.in_ok-tick.ensures in
-    let cores_fit : s.cores ≤ length old = wide choose s kept old new s' done.ticked in
+    let cores_fit : s.cores ≤ length old = wide choose s (unsized s kept) old new s' done.ticked in
     let same : take s.cores new ≡ take s.cores c.front.result =
     same_front s.cores new c.front.result (omega arith) (omega (arith, s.few_cores)) (λ k h. sym (c.front.ensures k (omega (arith, s.few_cores)) (omega arith))) in
     let P : List ℕ → Type 0 = λ l. CallConforms (setting_of choose s) (run_of s) (tick c.args.entries) (named l) (run_of s') in
